@@ -1,0 +1,42 @@
+-- How the first row that holds is found: a row that holds is the answer, a row that doesn't hands on to the next. Assumes nothing.
+use mathlib.Core.Path.{_≡_, refl, sym}
+use mathlib.Core.Bool.{Bool, true, false, cond}
+use mathlib.Core.List.{List, [], _∷_, _++_}
+use Prim.Native.Nat.{ℕ}
+use native.Mathlib.Omega.{arith}
+use Rattle.layout.specs.Refusal.{Row, row, Tested, passed, refused, first}
+
+-- a first answer, and where it is passed a second
+abbrev pub and-then : Tested → Tested → Tested
+and-then passed t = t
+and-then (refused n v) t = refused n v
+
+pub first-here : (n v : ℕ) (h : Bool) (rows : List Row) → h ≡ true → first (row n h v ∷ rows) ≡ refused n v
+unfolding first
+first-here n v h rows e = rw e
+
+pub first-skip : (n v : ℕ) (h : Bool) (rows : List Row) → h ≡ false → first (row n h v ∷ rows) ≡ first rows
+unfolding first
+first-skip n v h rows e = rw e
+
+pub passed-not-refused : {n v : ℕ} → passed ≡ refused n v → ⊥
+passed-not-refused e = let z : _≡_ {A = ℕ} 0 1 = cc in omega arith
+
+-- where all rows have been passed, the first of them did not hold, and the others have been passed
+pub passed-first : (r : Row) (rows : List Row) → first (r ∷ rows) ≡ passed → (r .holds ≡ false) × (first rows ≡ passed)
+unfolding first
+passed-first r rows e = go (r .holds) e
+  where
+    go : (h : Bool) → cond h (refused (r .number) (r .at)) (first rows) ≡ passed → (h ≡ false) × (first rows ≡ passed)
+    go true q = absurd (passed-not-refused (sym q))
+    go false q = (refl, q)
+
+-- the rows of a and then those of b
+pub first-append : (a b : List Row) → first (a ++ b) ≡ and-then (first a) (first b)
+unfolding first
+first-append [] b = refl
+first-append (r ∷ a) b = go (r .holds) (first-append a b)
+  where
+    go : (h : Bool) → first (a ++ b) ≡ and-then (first a) (first b) → cond h (refused (r .number) (r .at)) (first (a ++ b)) ≡ and-then (cond h (refused (r .number) (r .at)) (first a)) (first b)
+    go true e = refl
+    go false e = e

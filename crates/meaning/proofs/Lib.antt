@@ -1,0 +1,9 @@
+pub mod Monotone
+pub mod TwoWay
+pub mod TwoKinds
+pub mod MissMore
+pub mod Decide
+pub mod SetLaws
+pub mod Search
+pub mod Unique
+pub mod Witness

@@ -1,0 +1,37 @@
+-- "A limit is one of four kinds": the table of kinds.
+use mathlib.Core.Path.{_≡_}
+use Prim.Native.Nat.{ℕ, zero, suc, _≤_}
+use Rattle.meaning.specs.declared.Limit.{Limit}
+
+pub data Rule : Type 0 where
+  AnyHit RowHit AnyMiss : (x k : ℕ) → Rule
+  RowMiss : (x : ℕ) → Rule
+
+-- the column "kind byte" (a kind above 3 is refused, and never comes here)
+abbrev pub ruleFrom : (kind x k : ℕ) → Rule
+ruleFrom zero x k = AnyHit x k
+ruleFrom (suc zero) x k = RowHit x k
+ruleFrom (suc (suc zero)) x k = AnyMiss x k
+ruleFrom (suc (suc (suc kind))) x k = RowMiss x
+
+abbrev pub ruleOf : Limit → Rule
+ruleOf l = ruleFrom (l .kind) (l .x) (l .k)
+
+-- how many jobs a window has: "k", and for RowMiss "window x+1"
+abbrev pub width : Rule → ℕ
+width (AnyHit x k) = k
+width (RowHit x k) = k
+width (AnyMiss x k) = k
+width (RowMiss x) = suc x
+
+-- the column "allowed numbers", with the longest window for its 12 and one less for its 11
+abbrev pub RuleAllowed : (longest : ℕ) → Rule → Type 0
+RuleAllowed longest (AnyHit x k) = (1 ≤ k) × (k ≤ longest) × (x ≤ k)
+RuleAllowed longest (RowHit x k) = (1 ≤ k) × (k ≤ longest) × (x ≤ k)
+RuleAllowed longest (AnyMiss x k) = (1 ≤ k) × (k ≤ longest) × (x ≤ k)
+RuleAllowed longest (RowMiss x) = suc x ≤ longest
+
+pub record Allowed (longest : ℕ) (l : Limit) : Type 0 where
+  pub kind-known : l .kind ≤ 3
+  pub rule-allowed : RuleAllowed longest (ruleOf l)
+  pub k-unused : l .kind ≡ 3 → l .k ≡ 0
