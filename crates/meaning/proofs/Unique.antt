@@ -1,16 +1,15 @@
 -- A pattern is lost at one job and one limit, kept and lost exclude each other, and two sets have at most one first pattern between them. Assumes nothing.
-use mathlib.Core.Path.{_≡_, refl, sym, ap, _∙_, subst}
-use mathlib.Core.Logic.{dite, _⊎_, inl, inr, ⊎-elim}
-use mathlib.Core.Bool.{Bool, true, false, true≢false}
-use mathlib.Core.List.{List, [], _∷_, _++_}
+use mathlib.Core.Path.{_≡_, sym, subst}
+use mathlib.Core.Logic.{dite}
+use mathlib.Core.Bool.{Bool}
+use mathlib.Core.List.{List}
 use Prim.Native.Nat.{ℕ, _≤_, _<_}
 use native.Mathlib.Decide.{decLt}
 use native.Mathlib.Omega.{arith}
-use lib.ListN.{take}
+use Rattle.patterns.proofs.Codes.{no-later-antisym}
 use Rattle.meaning.specs.declared.LimitSet.{LimitSet}
-use Rattle.meaning.specs.Sets.{KeptBy, LostAt, ruleAt}
-use Rattle.meaning.specs.Kept.{Kept}
-use Rattle.meaning.specs.Covers.{MissFirst, FirstBetween}
+use Rattle.meaning.specs.Sets.{KeptBy, LostAt}
+use Rattle.meaning.specs.Covers.{FirstBetween}
 use Rattle.meaning.proofs.SetLaws.{kept-by-take}
 
 module _ (s : LimitSet) (p : List Bool) where
@@ -33,21 +32,6 @@ module _ (s : LimitSet) (p : List Bool) where
       let b = limit-le j i′ i m l in
       omega arith
 
--- two patterns can't each have the miss at the first difference
-one-miss-first : (same same′ rest other rest′ other′ : List Bool) → same ++ (false ∷ rest) ≡ same′ ++ (true ∷ other′) → same ++ (true ∷ other) ≡ same′ ++ (false ∷ rest′) → ⊥
-one-miss-first [] [] rest other rest′ other′ e f = let g : false ≡ true = cc in true≢false (sym g)
-one-miss-first [] (b ∷ t) rest other rest′ other′ e f = let g : false ≡ true = cc in true≢false (sym g)
-one-miss-first (a ∷ s) [] rest other rest′ other′ e f = let g : false ≡ true = cc in true≢false (sym g)
-one-miss-first (a ∷ s) (b ∷ t) rest other rest′ other′ e f = one-miss-first s t rest other rest′ other′ (cc) (cc)
-
-pub miss-first-antisym : (p q : List Bool) → MissFirst p q → MissFirst q p → p ≡ q
-miss-first-antisym p q (inl e) m = e
-miss-first-antisym p q (inr d) (inl e) = sym e
-miss-first-antisym p q (inr (s, r, o, e, f)) (inr (t, r′, o′, e′, f′)) =
-    absurd (one-miss-first s t r o r′ o′ (sym e ∙ f′) (sym f ∙ e′))
-
 pub first-between-unique : (a b : LimitSet) (p q : List Bool) → FirstBetween a b p → FirstBetween a b q → p ≡ q
 first-between-unique a b p q f g =
-    let m = f .shortest q (g .between) in
-    let n = g .shortest p (f .between) in
-    miss-first-antisym p q (f .earliest q (g .between) (omega arith)) (g .earliest p (f .between) (omega arith))
+    no-later-antisym p q (f .none-earlier q (g .between)) (g .none-earlier p (f .between))

@@ -13,6 +13,7 @@ use Rattle.meaning.specs.Holds.{Holds}
 use Rattle.meaning.specs.Kept.{Kept}
 use Rattle.meaning.specs.Sets.{SetAllowed, KeptBy, ruleAt}
 use Rattle.meaning.specs.Covers.{Between, FirstBetween}
+use Rattle.patterns.proofs.Codes.{no-later-length}
 use Rattle.meaning.proofs.TwoKinds.{length-window}
 use Rattle.meaning.proofs.TwoWay.{kept-occurs, window-drop}
 use Rattle.meaning.proofs.Search.{breaking-limit, breaking-window}
@@ -55,5 +56,4 @@ short-witness a b w p ok (ka, nb) =
 pub first-between-short : (a b : LimitSet) (w : ℕ) (p : List Bool) → SetAllowed w b → FirstBetween a b p → length p ≤ w
 first-between-short a b w p ok f =
     let (v, between, short) = short-witness a b w p ok (f .between) in
-    let m = f .shortest v between in
-    omega arith
+    omega (arith, no-later-length p v (f .none-earlier v between))

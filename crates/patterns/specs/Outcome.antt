@@ -1,0 +1,18 @@
+-- "A job's outcome is 1 (deadline met, a hit) or 0 (a miss). A pattern is a finite list of outcomes, oldest first."
+-- A hit is true and a miss is false.
+use mathlib.Core.Bool.{Bool, true, false, not}
+use mathlib.Core.List.{List, [], map}
+use Prim.Native.Nat.{ℕ}
+use lib.Dec.{eqb}
+
+-- the outcome that a byte says
+abbrev pub outcome : ℕ → Bool
+outcome byte = not (eqb byte 0)
+
+abbrev pub outcomes : List ℕ → List Bool
+outcomes bytes = map outcome bytes
+
+-- the byte of an outcome
+abbrev pub bit : Bool → ℕ
+bit true = 1
+bit false = 0
