@@ -14,96 +14,88 @@ use Rattle.meaning.specs.Limit.{Rule, AnyHit, RowHit, AnyMiss, RowMiss, 
 use Rattle.meaning.specs.Window.{around, window}
 use Rattle.meaning.specs.Holds.{hits, misses, Run, Holds}
 use Rattle.meaning.specs.Kept.{Always, Kept}
+use Rattle.meaning.specs.Test.{every, startsWith, hasRun, holdsTest, windowTest, keptTest}
 use Rattle.meaning.proofs.TwoKinds.{row-miss-hit}
 use Rattle.meaning.proofs.MissMore.{window-after, window-split, run-before, sucℤ-sub}
 
--- w starts with x hits
-abbrev pub startsb : ℕ → List Bool → Bool
-startsb zero w = true
-startsb (suc x) [] = false
-startsb (suc x) (b ∷ w) = b && startsb x w
-
--- x hits in a row stand somewhere in w
-abbrev pub runb : ℕ → List Bool → Bool
-runb x [] = startsb x []
-runb x (b ∷ w) = startsb x (b ∷ w) || runb x w
-
-abbrev pub holdsb : Rule → List Bool → Bool
-holdsb (AnyHit x k) w = leb x (hits w)
-holdsb (RowHit x k) w = runb x w
-holdsb (AnyMiss x k) w = leb (misses w) x
-holdsb (RowMiss x) w = leb 1 (hits w)
-
--- f holds at each number below n
-abbrev pub allb : ℕ → (ℕ → Bool) → Bool
-allb zero f = true
-allb (suc n) f = f n && allb n f
-
--- each window that starts at -k or later, and no later than the pattern's end
-abbrev pub keptb : Rule → List Bool → Bool
-keptb l p = allb (suc (width l + length p)) (λ j. holdsb l (window (around p) (pos j -ℤ pos (width l)) (width l)))
-
-and-T : (a b : Bool) → T (a && b) ↔ (T a × T b)
+pub and-T : (a b : Bool) → T (a && b) ↔ (T a × T b)
 and-T true b = (λ t. (tt, t), λ t. t .1)
 and-T false b = (λ t. absurd t, λ t. t .0)
 
-or-left : (a b : Bool) → T a → T (a || b)
+pub or-left : (a b : Bool) → T a → T (a || b)
 or-left true b t = tt
 or-left false b t = absurd t
 
-or-right : (a b : Bool) → T b → T (a || b)
+pub or-right : (a b : Bool) → T b → T (a || b)
 or-right true b t = tt
 or-right false b t = t
 
-or-case : (a b : Bool) → T (a || b) → T a ⊎ T b
+pub or-case : (a b : Bool) → T (a || b) → T a ⊎ T b
 or-case true b t = inl tt
 or-case false b t = inr t
 
-T-true : (b : Bool) → T b → b ≡ true
+pub T-of : (b : Bool) → b ≡ true → T b
+T-of b e = subst (λ z. T z) (sym e) tt
+
+pub not-T-false : (b : Bool) → (T b → ⊥) → b ≡ false
+not-T-false true f = absurd (f tt)
+not-T-false false f = refl
+
+-- two tests that pass together are one
+pub same-test : (a b : Bool) → (T a → T b) → (T b → T a) → a ≡ b
+same-test true true f g = refl
+same-test true false f g = absurd (f tt)
+same-test false true f g = absurd (g tt)
+same-test false false f g = refl
+
+pub T-true : (b : Bool) → T b → b ≡ true
 T-true true t = refl
 T-true false t = absurd t
 
-starts-to : (x : ℕ) (w : List Bool) → T (startsb x w) → (b : List Bool) × (w ≡ replicate x true ++ b)
+starts-to : (x : ℕ) (w : List Bool) → T (startsWith x w) → (b : List Bool) × (w ≡ replicate x true ++ b)
 starts-to zero w t = (w, refl)
 starts-to (suc x) [] t = absurd t
 starts-to (suc x) (a ∷ w) t =
-    let (ta, tw) = and-T a (startsb x w) .0 t in
+    let (ta, tw) = and-T a (startsWith x w) .0 t in
     let (b, e) = starts-to x w tw in
     (b, cc (T-true a ta))
 
-starts-from : (x : ℕ) (b : List Bool) → T (startsb x (replicate x true ++ b))
+starts-from : (x : ℕ) (b : List Bool) → T (startsWith x (replicate x true ++ b))
 starts-from zero b = tt
 starts-from (suc x) b = starts-from x b
 
-run-to : (x : ℕ) (w : List Bool) → T (runb x w) → Run x w
+run-to : (x : ℕ) (w : List Bool) → T (hasRun x w) → Run x w
 run-to x [] t = let (b, e) = starts-to x [] t in ([], b, e)
 run-to x (a ∷ w) t =
     ⊎-elim (λ s. let (b, e) = starts-to x (a ∷ w) s in ([], b, e)) (λ r. run-before x (a ∷ []) w (run-to x w r))
-    (or-case (startsb x (a ∷ w)) (runb x w) t)
+    (or-case (startsWith x (a ∷ w)) (hasRun x w) t)
 
-run-here : (x : ℕ) (w : List Bool) → T (startsb x w) → T (runb x w)
+run-here : (x : ℕ) (w : List Bool) → T (startsWith x w) → T (hasRun x w)
 run-here x [] t = t
-run-here x (a ∷ w) t = or-left (startsb x (a ∷ w)) (runb x w) t
+run-here x (a ∷ w) t = or-left (startsWith x (a ∷ w)) (hasRun x w) t
 
-run-from : (x : ℕ) (a b : List Bool) → T (runb x (a ++ (replicate x true ++ b)))
+run-from : (x : ℕ) (a b : List Bool) → T (hasRun x (a ++ (replicate x true ++ b)))
 run-from x [] b = run-here x (replicate x true ++ b) (starts-from x b)
-run-from x (c ∷ a) b = or-right (startsb x (c ∷ (a ++ (replicate x true ++ b)))) _ (run-from x a b)
+run-from x (c ∷ a) b = or-right (startsWith x (c ∷ (a ++ (replicate x true ++ b)))) _ (run-from x a b)
 
-pub holds-iff : (l : Rule) (w : List Bool) → T (holdsb l w) ↔ Holds l w
+pub run-iff : (x : ℕ) (w : List Bool) → T (hasRun x w) ↔ Run x w
+run-iff x w = (run-to x w, λ (a, b, e). subst (λ z. T (hasRun x z)) (sym e) (run-from x a b))
+
+pub holds-iff : (l : Rule) (w : List Bool) → T (holdsTest l w) ↔ Holds l w
 holds-iff (AnyHit x k) w = (leb→le x (hits w), le→leb x (hits w))
-holds-iff (RowHit x k) w = (run-to x w, λ (a, b, e). subst (λ z. T (runb x z)) (sym e) (run-from x a b))
+holds-iff (RowHit x k) w = run-iff x w
 holds-iff (AnyMiss x k) w = (leb→le (misses w) x, le→leb (misses w) x)
 holds-iff (RowMiss x) w = (λ t. row-miss-hit x w .1 (leb→le 1 (hits w) t), λ h. le→leb 1 (hits w) (row-miss-hit x w .0 h))
 
-pub all-to : (n : ℕ) (f : ℕ → Bool) → T (allb n f) → (j : ℕ) → j < n → T (f j)
-all-to zero f t j h = absurd (omega arith)
-all-to (suc n) f t j h =
-    dite (decLt j n) (λ lt. all-to n f (and-T (f n) (allb n f) .0 t .1) j lt)
-    (λ nlt. let e : n ≡ j = omega arith in subst (λ z. T (f z)) e (and-T (f n) (allb n f) .0 t .0))
+pub every-at : (n : ℕ) (f : ℕ → Bool) → T (every n f) → (j : ℕ) → j < n → T (f j)
+every-at zero f t j h = absurd (omega arith)
+every-at (suc n) f t j h =
+    dite (decLt j n) (λ lt. every-at n f (and-T (f n) (every n f) .0 t .1) j lt)
+    (λ nlt. let e : n ≡ j = omega arith in subst (λ z. T (f z)) e (and-T (f n) (every n f) .0 t .0))
 
-pub all-from : (n : ℕ) (f : ℕ → Bool) → ((j : ℕ) → j < n → T (f j)) → T (allb n f)
-all-from zero f h = tt
-all-from (suc n) f h = and-T (f n) (allb n f) .1 (h n (omega arith), all-from n f (λ j l. h j (omega arith)))
+pub every-from : (n : ℕ) (f : ℕ → Bool) → ((j : ℕ) → j < n → T (f j)) → T (every n f)
+every-from zero f h = tt
+every-from (suc n) f h = and-T (f n) (every n f) .1 (h n (omega arith), every-from n f (λ j l. h j (omega arith)))
 
 window-early : (p : List Bool) (k n : ℕ) → k ≤ suc n → window (around p) (negsuc n) k ≡ replicate k true
 window-early p zero n h = refl
@@ -115,11 +107,11 @@ neg-back n k h =
     ap (λ z. z -ℤ pos k) (sym (ap (λ b. cond b (negsuc (suc n - suc k)) (pos (k - suc n))) (le-ltb k (suc n) h)))
     ∙ +ℤ-negℤ-cancel (negsuc n) (pos k)
 
-module _ (l : Rule) (p : List Bool) (t : T (keptb l p)) where
+module _ (l : Rule) (p : List Bool) (t : T (keptTest l p)) where
   at-test : (j : ℕ) (i : ℤ) → j ≤ width l + length p → pos j -ℤ pos (width l) ≡ i → Holds l (window (around p) i (width l))
   at-test j i h e =
       subst (λ z. Holds l (window (around p) z (width l))) e
-      (holds-iff l _ .0 (all-to (suc (width l + length p)) (λ j. holdsb l (window (around p) (pos j -ℤ pos (width l)) (width l))) t j (omega arith)))
+      (holds-iff l _ .0 (every-at (suc (width l + length p)) (windowTest l p) t j (omega arith)))
 
   at-pos : (n : ℕ) → n ≤ length p → Holds l (window (around p) (pos n) (width l))
   at-pos n h = at-test (n + width l) (pos n) (omega arith) (+ℤ-negℤ-cancel (pos n) (pos (width l)))
@@ -135,9 +127,9 @@ module _ (l : Rule) (p : List Bool) (t : T (keptb l p)) where
       dite (decLe (suc n) (width l)) (λ h. at-test (width l - suc n) (negsuc n) (omega arith) (neg-back n (width l) h))
       (λ h. at-hits (negsuc n) (window-early p (width l) n (omega arith)))
 
-pub kept-iff : (l : Rule) (p : List Bool) → T (keptb l p) ↔ Kept l p
+pub kept-iff : (l : Rule) (p : List Bool) → T (keptTest l p) ↔ Kept l p
 kept-iff l p = (
   kept-of-test l p,
-  λ h. all-from (suc (width l + length p)) (λ j. holdsb l (window (around p) (pos j -ℤ pos (width l)) (width l)))
+  λ h. every-from (suc (width l + length p)) (windowTest l p)
       (λ j b. holds-iff l _ .1 (h (pos j -ℤ pos (width l)))),
 )

@@ -1,6 +1,6 @@
--- What one more miss asks of a kept pattern: the step laws. Assumes nothing.
+-- What one more miss asks of the outcomes before it. A window is apart from the miss, and then nothing changed, or over it. Assumes nothing.
 use mathlib.Core.Path.{_≡_, refl, sym, ap, ap₂, _∙_, subst}
-use mathlib.Core.Logic.{_↔_, _⊎_, inl, inr, ⊎-elim, _≢_}
+use mathlib.Core.Logic.{_↔_, _≢_}
 use mathlib.Core.Bool.{Bool, true, false, false≢true}
 use mathlib.Core.List.{List, [], _∷_, _++_, append-assoc}
 use Prim.Native.Nat.{ℕ, zero, suc, _+_, _-_, _≤_, _<_}
@@ -11,13 +11,9 @@ use lib.ListN.{length, getD, replicate, length-append, length-replicate, List·g
 use lib.Seq.{getD-append-seam}
 use lib.IntN.{ℤ, pos, negsuc, sucℤ, negℤ, natAbs, _+ℤ_, _-ℤ_, +ℤ-idr, +ℤ-sucℤ, sucℤ-+ℤ, +ℤ-negℤ-cancel, -ℤ-+ℤ-cancel, ℤ-discrete}
 use Rattle.meaning.specs.Limit.{Rule, AnyHit, RowHit, width}
-use Rattle.meaning.specs.Window.{around, window}
+use Rattle.meaning.specs.Window.{around, window, recent}
 use Rattle.meaning.specs.Holds.{hits, Run, Holds}
 use Rattle.meaning.specs.Kept.{Always, Kept}
-
--- the last n outcomes of endless hits and then p
-abbrev pub recent : List Bool → ℕ → List Bool
-recent p n = window (around p) (pos (length p) -ℤ pos n) n
 
 pub sucℤ-sub : (i : ℤ) (n : ℕ) → sucℤ (i -ℤ pos (suc n)) ≡ i -ℤ pos n
 sucℤ-sub i zero = sym (+ℤ-sucℤ i (negsuc zero))
@@ -129,7 +125,7 @@ over-recent p n r i e = over-at p n r i e ∙ ap (λ z. z ++ (false ∷ replicat
 over-width : (p : List Bool) (k n r : ℕ) (i : ℤ) → k ≡ n + suc r → i +ℤ pos n ≡ pos (length p) → window (around (p ++ false ∷ [])) i k ≡ recent p n ++ (false ∷ replicate r true)
 over-width p k n r i e f = ap (λ z. window (around (p ++ false ∷ [])) i z) e ∙ over-recent p n r i f
 
--- (5) one more miss under AnyHit(x, k)
+-- One more miss under AnyHit(x, k): of all windows over the miss, the one that ends at it has the fewest hits.
 module _ (x k : ℕ) (p : List Bool) (wide : 1 ≤ k) (kept : Kept (AnyHit x k) p) where
   any-to : Kept (AnyHit x k) (p ++ false ∷ []) → x ≤ hits (recent p (k - 1))
   any-to h =
@@ -143,8 +139,8 @@ module _ (x k : ℕ) (p : List Bool) (wide : 1 ≤ k) (kept : Kept (AnyHit x k) 
       let g : k - 1 ≡ r + n = omega arith in
       omega (arith, ap hits (over-width p k n r i e f), hits-append (recent p n) (false ∷ replicate r true), hits-replicate r, hits-recent p r n, ap (λ z. hits (recent p z)) g)
 
-  pub step-any : Kept (AnyHit x k) (p ++ false ∷ []) ↔ (x ≤ hits (recent p (k - 1)))
-  step-any = (any-to, λ h i. any-at i h (near p i k))
+  pub miss-more-any : Kept (AnyHit x k) (p ++ false ∷ []) ↔ (x ≤ hits (recent p (k - 1)))
+  miss-more-any = (any-to, λ h i. any-at i h (near p i k))
 
 pub run-before : (x : ℕ) (a w : List Bool) → Run x w → Run x (a ++ w)
 run-before x a w (c, d, e) = (a ++ c, d, ap (λ z. a ++ z) e ∙ sym (append-assoc a c (replicate x true ++ d)))
@@ -181,16 +177,16 @@ run-left y (d ∷ w) (c ∷ a) b e =
     let (a₁, b₁, f) = run-left y w a b g in
     (d ∷ a₁, b₁, ap {B = List Bool} (λ z. d ∷ z) f)
 
--- (6) one more miss under RowHit(x, k)
+-- One more miss under RowHit(x, k): the windows over the miss that hits after it can't repair all contain the last k - x outcomes before it.
 module _ (x k : ℕ) (p : List Bool) (fits : x ≤ k) (kept : Kept (RowHit x k) p) where
-  row-to : (y : ℕ) → x ≡ y → Kept (RowHit x k) (p ++ false ∷ []) → (x ≡ zero) ⊎ Run x (recent p (k - x))
-  row-to zero e h = inl e
+  row-to : (y : ℕ) → x ≡ y → Kept (RowHit x k) (p ++ false ∷ []) → Run x (recent p (k - x))
+  row-to zero e h = subst (λ z. Run z (recent p (k - x))) (sym e) ([], recent p (k - x), refl)
   row-to (suc y) e h =
       let i : ℤ = pos (length p) -ℤ pos (k - x) in
       let q = over-width p k (k - x) y i (omega arith) (-ℤ-+ℤ-cancel (pos (length p)) (pos (k - x))) in
       let (a, b, g) = h i in
-      inr (subst (λ z. Run z (recent p (k - x))) (sym e)
-      (run-left y (recent p (k - x)) a b (sym q ∙ g ∙ ap (λ z. a ++ (replicate z true ++ b)) e)))
+      subst (λ z. Run z (recent p (k - x))) (sym e)
+      (run-left y (recent p (k - x)) a b (sym q ∙ g ∙ ap (λ z. a ++ (replicate z true ++ b)) e))
 
   row-over : (n r : ℕ) → k ≡ n + suc r → Run x (recent p (k - x)) → Dec (x ≤ r) → Run x (recent p n ++ (false ∷ replicate r true))
   row-over n r e h (yes le) = run-before x (recent p n) (false ∷ replicate r true) (run-before x (false ∷ []) (replicate r true) (run-hits x r le))
@@ -206,9 +202,5 @@ module _ (x k : ℕ) (p : List Bool) (fits : x ≤ k) (kept : Kept (RowHit x k) 
       (sym (over-width p k n r i e f))
       (row-over n r e h (decLe x r))
 
-  row-from : (x ≡ zero) ⊎ Run x (recent p (k - x)) → Kept (RowHit x k) (p ++ false ∷ [])
-  row-from (inl e) i = subst (λ z. Run z (window (around (p ++ false ∷ [])) i k)) (sym e) ([], window (around (p ++ false ∷ [])) i k, refl)
-  row-from (inr h) i = row-at i h (near p i k)
-
-  pub step-row : Kept (RowHit x k) (p ++ false ∷ []) ↔ ((x ≡ zero) ⊎ Run x (recent p (k - x)))
-  step-row = (row-to x refl, row-from)
+  pub miss-more-row : Kept (RowHit x k) (p ++ false ∷ []) ↔ Run x (recent p (k - x))
+  miss-more-row = (row-to x refl, λ h i. row-at i h (near p i k))

@@ -14,47 +14,44 @@ use Rattle.meaning.specs.Window.{around, window}
 use Rattle.meaning.specs.Holds.{Holds}
 use Rattle.meaning.specs.Kept.{Kept}
 use Rattle.meaning.specs.Sets.{KeptBy, ruleAt}
-use Rattle.meaning.proofs.Decide.{holdsb, keptb, allb, holds-iff, kept-iff, all-to, all-from}
+use Rattle.meaning.specs.Test.{every, windowTest, keptTest, keptByTest}
+use Rattle.meaning.proofs.Decide.{holds-iff, kept-iff, every-at, every-from}
 use Rattle.meaning.proofs.SetLaws.{kept-by-hit}
 
 -- a test that fails somewhere below n fails at some number
-pub find-false : (n : ℕ) (f : ℕ → Bool) → (T (allb n f) → ⊥) → (j : ℕ) × (j < n) × (T (f j) → ⊥)
+pub find-false : (n : ℕ) (f : ℕ → Bool) → (T (every n f) → ⊥) → (j : ℕ) × (j < n) × (T (f j) → ⊥)
 find-false zero f h = absurd (h tt)
 find-false (suc n) f h = go (f n) refl (find-false n f)
   where
-    go : (b : Bool) → f n ≡ b → ((T (allb n f) → ⊥) → (j : ℕ) × (j < n) × (T (f j) → ⊥)) → (j : ℕ) × (j < suc n) × (T (f j) → ⊥)
+    go : (b : Bool) → f n ≡ b → ((T (every n f) → ⊥) → (j : ℕ) × (j < n) × (T (f j) → ⊥)) → (j : ℕ) × (j < suc n) × (T (f j) → ⊥)
     go false e r = (n, omega arith, λ t. subst (λ z. T z) e t)
     go true e r =
-        let (j, l, g) = r (λ t. h (subst (λ z. T (z && allb n f)) (sym e) t)) in
+        let (j, l, g) = r (λ t. h (subst (λ z. T (z && every n f)) (sym e) t)) in
         (j, omega arith, g)
 
--- the test that a set keeps a pattern
-abbrev pub kept-byb : LimitSet → List Bool → Bool
-kept-byb s p = allb (s .count) (λ i. keptb (ruleAt s i) p)
-
-pub kept-by-iff : (s : LimitSet) (p : List Bool) → T (kept-byb s p) ↔ KeptBy s p
+pub kept-by-iff : (s : LimitSet) (p : List Bool) → T (keptByTest s p) ↔ KeptBy s p
 kept-by-iff s p = (
-  λ t i h. kept-iff (ruleAt s i) p .0 (all-to (s .count) (λ i. keptb (ruleAt s i) p) t i h),
-  λ k. all-from (s .count) (λ i. keptb (ruleAt s i) p) (λ i h. kept-iff (ruleAt s i) p .1 (k i h)),
+  λ t i h. kept-iff (ruleAt s i) p .0 (every-at (s .count) (λ i. keptTest (ruleAt s i) p) t i h),
+  λ k. every-from (s .count) (λ i. keptTest (ruleAt s i) p) (λ i h. kept-iff (ruleAt s i) p .1 (k i h)),
 )
 
 pub kept-by-dec : (s : LimitSet) (p : List Bool) → Dec (KeptBy s p)
-kept-by-dec s p = go (kept-byb s p) refl
+kept-by-dec s p = go (keptByTest s p) refl
   where
-    go : (b : Bool) → kept-byb s p ≡ b → Dec (KeptBy s p)
+    go : (b : Bool) → keptByTest s p ≡ b → Dec (KeptBy s p)
     go true e = yes (kept-by-iff s p .0 (subst (λ z. T z) (sym e) tt))
     go false e = no (λ k. subst (λ z. T z) e (kept-by-iff s p .1 k))
 
 -- a limit that breaks
 pub breaking-limit : (s : LimitSet) (p : List Bool) → (KeptBy s p → ⊥) → (i : ℕ) × (i < s .count) × (Kept (ruleAt s i) p → ⊥)
 breaking-limit s p h =
-    let (i, l, f) = find-false (s .count) (λ i. keptb (ruleAt s i) p) (λ t. h (kept-by-iff s p .0 t)) in
+    let (i, l, f) = find-false (s .count) (λ i. keptTest (ruleAt s i) p) (λ t. h (kept-by-iff s p .0 t)) in
     (i, l, λ k. f (kept-iff (ruleAt s i) p .1 k))
 
 -- a window that breaks
 pub breaking-window : (l : Rule) (p : List Bool) → (Kept l p → ⊥) → (i : ℤ) × (Holds l (window (around p) i (width l)) → ⊥)
 breaking-window l p h =
-    let (j, b, f) = find-false (suc (width l + length p)) (λ j. holdsb l (window (around p) (pos j -ℤ pos (width l)) (width l))) (λ t. h (kept-iff l p .0 t)) in
+    let (j, b, f) = find-false (suc (width l + length p)) (windowTest l p) (λ t. h (kept-iff l p .0 t)) in
     (pos j -ℤ pos (width l), λ k. f (holds-iff l _ .1 k))
 
 -- a pattern that isn't kept has a kept beginning after which a miss loses it

@@ -17,7 +17,7 @@ use Rattle.meaning.proofs.Monotone.{Up}
 use Rattle.meaning.proofs.TwoWay.{kept-of, kept-part, kept-prefix, kept-hit}
 use Rattle.meaning.proofs.MissMore.{hits-replicate, run-hits}
 
-window-empty : (i : ℤ) (k : ℕ) → window (around []) i k ≡ replicate k true
+pub window-empty : (i : ℤ) (k : ℕ) → window (around []) i k ≡ replicate k true
 window-empty i zero = refl
 window-empty (pos n) (suc k) = ap {B = List Bool} (λ z. true ∷ z) (window-empty (pos (suc n)) k)
 window-empty (negsuc n) (suc k) = ap {B = List Bool} (λ z. true ∷ z) (window-empty (sucℤ (negsuc n)) k)

@@ -8,9 +8,9 @@ use native.Mathlib.Omega.{arith}
 use lib.ListN.{length, replicate}
 use lib.IntN.{ℤ, sucℤ}
 use Rattle.meaning.specs.Limit.{Rule, AnyHit, RowHit, AnyMiss, RowMiss, width}
-use Rattle.meaning.specs.Window.{window}
+use Rattle.meaning.specs.Window.{around, window}
 use Rattle.meaning.specs.Holds.{hits, misses, Holds}
-use Rattle.meaning.specs.Kept.{Always}
+use Rattle.meaning.specs.Kept.{Kept}
 
 pub hits-misses : (w : List Bool) → hits w + misses w ≡ length w
 hits-misses [] = omega arith
@@ -21,7 +21,7 @@ pub length-window : (s : ℤ → Bool) (i : ℤ) (k : ℕ) → length (window s 
 length-window s i zero = refl
 length-window s i (suc k) = ap suc (length-window s (sucℤ i) k)
 
--- (4)
+-- at most x misses of k are at least k - x hits
 pub any-miss-hit : (x k : ℕ) (w : List Bool) → x ≤ k → length w ≡ k → Holds (AnyMiss x k) w ↔ Holds (AnyHit (k - x) k) w
 any-miss-hit x k w h e = let g = hits-misses w in (λ m. omega arith, λ m. omega arith)
 
@@ -40,3 +40,16 @@ row-miss-hit x w = (λ m. some (hits w) refl m, λ m e. let g : hits w ≡ zero 
     some : (n : ℕ) → hits w ≡ n → Holds (RowMiss x) w → 1 ≤ hits w
     some zero e m = absurd (m (no-hits w e))
     some (suc n) e m = omega arith
+
+-- two rules of one width that say the same of each window keep the same patterns
+kept-same : (l m : Rule) → width l ≡ width m → ((w : List Bool) → length w ≡ width l → Holds l w ↔ Holds m w) → (p : List Bool) → Kept l p ↔ Kept m p
+kept-same l m e f p = (
+  λ h i. subst (λ z. Holds m (window (around p) i z)) e (f (window (around p) i (width l)) (length-window (around p) i (width l)) .0 (h i)),
+  λ h i. f (window (around p) i (width l)) (length-window (around p) i (width l)) .1 (subst (λ z. Holds m (window (around p) i z)) (sym e) (h i)),
+)
+
+pub any-miss-kept : (x k : ℕ) → x ≤ k → (p : List Bool) → Kept (AnyMiss x k) p ↔ Kept (AnyHit (k - x) k) p
+any-miss-kept x k h = kept-same (AnyMiss x k) (AnyHit (k - x) k) refl (λ w e. any-miss-hit x k w h e)
+
+pub row-miss-kept : (x : ℕ) (p : List Bool) → Kept (RowMiss x) p ↔ Kept (AnyHit 1 (suc x)) p
+row-miss-kept x = kept-same (RowMiss x) (AnyHit 1 (suc x)) refl (λ w e. row-miss-hit x w)

@@ -5,3 +5,4 @@ pub mod Holds
 pub mod Kept
 pub mod Sets
 pub mod Covers
+pub mod Test

@@ -1,0 +1,47 @@
+-- The lowest limit that blocks a miss: there is one result, none blocks exactly when a miss may follow, and the numbers of an allowed limit. Assumes nothing.
+use mathlib.Core.Path.{_≡_, sym, ap, _∙_, subst}
+use mathlib.Core.Logic.{dite}
+use mathlib.Core.Bool.{Bool, true, false, false≢true}
+use Prim.Native.Nat.{ℕ, zero, suc, _≤_, _<_}
+use native.Mathlib.Decide.{decLt, ℕ-discrete}
+use native.Mathlib.Omega.{arith}
+use borrow.Author.Tests.{eq-eqb, ne-eqb}
+use lib.Dec.{T, eqb}
+use Rattle.meaning.specs.declared.Limit.{Limit}
+use Rattle.meaning.specs.declared.LimitSet.{LimitSet}
+use Rattle.meaning.specs.Limit.{Allowed, RuleAllowed, ruleFrom}
+use Rattle.meaning.specs.Sets.{ruleAt}
+use Rattle.meaning.specs.Test.{every}
+use Rattle.meaning.proofs.Decide.{T-true, T-of, every-at, every-from, not-T-false}
+use Rattle.history.specs.MayMiss.{mayMissUnder, mayMiss, Blocks}
+
+-- what the code that computes `mayMissUnder` asks of a limit
+pub allowed-numbers : (w : ℕ) (l : Limit) → Allowed w l → l .kind ≤ 2 → (1 ≤ l .k) × (l .x ≤ l .k)
+allowed-numbers w l a = go (l .kind) (a .rule-allowed)
+  where
+    go : (kind : ℕ) → RuleAllowed w (ruleFrom kind (l .x) (l .k)) → kind ≤ 2 → (1 ≤ l .k) × (l .x ≤ l .k)
+    go zero (a, b, c) h = (a, c)
+    go (suc zero) (a, b, c) h = (a, c)
+    go (suc (suc zero)) (a, b, c) h = (a, c)
+    go (suc (suc (suc kind))) a h = absurd (omega arith)
+
+module _ (s : LimitSet) (h : ℕ) where
+  pub none-blocks : (i : ℕ) → Blocks s h i → i ≡ s .count → mayMiss s h ≡ true
+  unfolding mayMiss
+  none-blocks i b e = T-true _ (every-from (s .count) (λ j. mayMissUnder (ruleAt s j) h) (λ j l. T-of _ (b .before j (omega arith))))
+
+  pub one-blocks : (i : ℕ) → Blocks s h i → i < s .count → mayMiss s h ≡ false
+  unfolding mayMiss
+  one-blocks i b l = not-T-false _ (λ t. false≢true (sym (b .here l) ∙ T-true _ (every-at (s .count) (λ j. mayMissUnder (ruleAt s j) h) t i l)))
+
+  pub blocks-may-miss : (i : ℕ) → Blocks s h i → eqb i (s .count) ≡ mayMiss s h
+  blocks-may-miss i b =
+      dite (ℕ-discrete i (s .count)) (λ e. eq-eqb i (s .count) e ∙ sym (none-blocks i b e))
+      (λ e. ne-eqb i (s .count) e ∙ sym (one-blocks i b (omega (arith, b .within))))
+
+  blocks-le : (i j : ℕ) → Blocks s h i → Blocks s h j → j ≤ i
+  blocks-le i j b c =
+      dite (decLt i j) (λ l. absurd (false≢true (sym (b .here (omega (arith, c .within))) ∙ c .before i l))) (λ l. omega arith)
+
+  pub blocks-unique : (i j : ℕ) → Blocks s h i → Blocks s h j → i ≡ j
+  blocks-unique i j b c = omega (arith, blocks-le i j b c, blocks-le j i c b)

@@ -1,0 +1,6 @@
+pub mod Histories
+pub mod Runs
+pub mod MissLaws
+pub mod Walked
+pub mod Turns
+pub mod Blocking

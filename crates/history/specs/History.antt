@@ -1,0 +1,22 @@
+-- "the newest outcome is the low bit of a history": "Histories shift left, take the new outcome and are masked to the window."
+-- The history length m is a variable everywhere.
+use mathlib.Core.Bool.{Bool}
+use mathlib.Core.List.{List, [], _∷_}
+use Prim.Native.Nat.{ℕ, zero, suc, _+_, _*_, _/_, _%_, _^_}
+use lib.Dec.{eqb}
+use Rattle.patterns.specs.Outcome.{bit}
+use Rattle.patterns.specs.Number.{number}
+use Rattle.meaning.specs.Window.{recent}
+
+-- the history after a pattern: its last m outcomes, hits where it has fewer
+unfoldable pub historyOf : ℕ → List Bool → ℕ
+historyOf m p = number (recent p m)
+
+-- the history after one more outcome
+abbrev pub pushed : ℕ → ℕ → Bool → ℕ
+pushed m h o = (h * 2 + bit o) % 2 ^ m
+
+-- the newest n outcomes of a history, newest first
+unfoldable pub newest : ℕ → ℕ → List Bool
+newest zero h = []
+newest (suc n) h = eqb (h % 2) 1 ∷ newest n (h / 2)

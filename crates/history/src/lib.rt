@@ -1,0 +1,111 @@
+// The history machine of a set: its state is the last outcomes in a number, the newest in the low bit.
+// A hit is always possible; whether a miss is, this crate says from the history alone, limit by limit.
+ghost use mathlib.Core.Path.{_≡_};
+ghost use Prim.Native.Nat.{ℕ, _+_, _^_, _≤_, _<_};
+ghost use lib.Dec.{leb};
+ghost use Rattle.meaning.specs.Longest.{longest};
+ghost use Rattle.meaning.specs.Limit.{Allowed, ruleOf};
+ghost use Rattle.meaning.specs.Holds.{hits};
+ghost use Rattle.meaning.specs.Sets.{SetAllowed};
+ghost use Rattle.meaning.specs.Test.{hasRun};
+ghost use Rattle.history.specs.History.{pushed, newest};
+ghost use Rattle.history.specs.MayMiss.{mayMissUnder, mayMiss, Blocks};
+use meaning::Limit;
+use meaning::LimitSet;
+
+// The history in which every outcome is a hit, at the library's longest window.
+pub const ALL_HITS: u16 = (1 << (meaning::LONGEST_WINDOW - 1)) - 1;
+
+// The history after one more outcome. `mask` is the history of hits only, for the length that is kept.
+pub fn push(history: u16, hit: bool, mask: u16) -> u16
+    requires { ⌜ (history ≤ mask) × (mask < 32768) ⌝ }
+    ensures { λ r. ⌜ (r ≤ mask) × ((m : ℕ) → mask + 1 ≡ 2 ^ m → r ≡ pushed m history hit) ⌝ }
+{
+    ((history << 1) | (hit as u16)) & mask
+}
+
+// How many of the newest n outcomes are hits.
+fn hits_among(history: u16, n: u8) -> u8
+    ensures { λ r. ⌜ r ≡ hits (newest n history) ⌝ }
+{
+    let mut rest = history;
+    let mut count: u8 = 0;
+    let mut i: u8 = 0;
+    while i < n {
+        count += (rest % 2) as u8;
+        rest = rest / 2;
+        i += 1;
+    }
+    count
+}
+
+// Whether x hits stand in a row among the newest n outcomes.
+fn row_among(history: u16, n: u8, x: u8) -> bool
+    ensures { λ r. ⌜ r ≡ hasRun x (newest n history) ⌝ }
+{
+    let mut rest = history;
+    let mut run: u8 = 0;
+    let mut i: u8 = 0;
+    while i < n {
+        if run == x {
+            return true;
+        }
+        run = (run + 1) * (rest % 2) as u8;
+        rest = rest / 2;
+        i += 1;
+    }
+    run == x
+}
+
+fn enough_hits(history: u16, n: u8, x: u8) -> bool
+    ensures { λ r. ⌜ r ≡ leb x (hits (newest n history)) ⌝ }
+{
+    let count = hits_among(history, n);
+    x <= count
+}
+
+// Whether a miss can follow under one limit.
+pub fn limit_may_miss(limit: Limit, history: u16) -> bool
+    requires { ⌜ Allowed longest limit ⌝ }
+    ensures { λ r. ⌜ r ≡ mayMissUnder (ruleOf limit) history ⌝ }
+{
+    let kind = limit.kind;
+    let x = limit.x;
+    let k = limit.k;
+    if kind == 0 {
+        return enough_hits(history, k - 1, x);
+    }
+    if kind == 1 {
+        return row_among(history, k - x, x);
+    }
+    if kind == 2 {
+        return enough_hits(history, k - 1, k - x);
+    }
+    enough_hits(history, x, 1)
+}
+
+// The lowest-numbered limit under which a miss can't follow, or the count of limits where there is none.
+pub fn blocking_limit(set: LimitSet, history: u16) -> usize
+    requires { ⌜ SetAllowed longest set ⌝ }
+    ensures { λ r. ⌜ Blocks set history r ⌝ }
+{
+    let count = set.count;
+    let mut i = 0;
+    while i < count {
+        let limit = set.limits[i];
+        if !limit_may_miss(limit, history) {
+            return i;
+        }
+        i += 1;
+    }
+    i
+}
+
+// Whether a miss can follow under every limit of the set.
+pub fn may_miss(set: LimitSet, history: u16) -> bool
+    requires { ⌜ SetAllowed longest set ⌝ }
+    ensures { λ r. ⌜ r ≡ mayMiss set history ⌝ }
+{
+    let count = set.count;
+    blocking_limit(set, history) == count
+}
