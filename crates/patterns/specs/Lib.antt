@@ -1,3 +1,4 @@
 pub mod Outcome
+pub mod Tested
 pub mod Order
 pub mod Number

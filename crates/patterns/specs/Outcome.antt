@@ -1,9 +1,10 @@
 -- "A job's outcome is 1 (deadline met, a hit) or 0 (a miss). A pattern is a finite list of outcomes, oldest first."
 -- A hit is true and a miss is false.
 use mathlib.Core.Bool.{Bool, true, false, not}
-use mathlib.Core.List.{List, [], map}
-use Prim.Native.Nat.{ℕ}
-use lib.Dec.{eqb}
+use mathlib.Core.List.{List, [], _∷_, map}
+use Prim.Native.Nat.{ℕ, suc}
+use lib.Dec.{eqb, ltb}
+use Rattle.layout.specs.Refusal.{Row, row}
 
 -- the outcome that a byte says
 abbrev pub outcome : ℕ → Bool
@@ -16,3 +17,8 @@ outcomes bytes = map outcome bytes
 abbrev pub bit : Bool → ℕ
 bit true = 1
 bit false = 0
+
+-- "an outcome byte is neither 0 nor 1", with "its place from 0": the bytes from place i on
+unfoldable pub outcomeRows : List ℕ → ℕ → List Row
+outcomeRows [] i = []
+outcomeRows (byte ∷ bytes) i = row 13 (ltb 1 byte) i ∷ outcomeRows bytes (suc i)

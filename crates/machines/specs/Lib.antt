@@ -1,0 +1,4 @@
+pub mod Machine
+pub mod Same
+pub mod Canonical
+pub mod Numbering

@@ -1,0 +1,39 @@
+-- The test for 13, place by place: a byte that is 0 or 1 hands on to the next, any other is the answer. Assumes nothing.
+use mathlib.Core.Path.{_≡_, sym, ap, _∙_}
+use mathlib.Core.Bool.{Bool, false}
+use mathlib.Core.List.{List, [], _∷_, _++_}
+use Prim.Native.Nat.{ℕ, _+_, _≤_, _<_}
+use native.Mathlib.Numerals.{add-one}
+use native.Mathlib.Omega.{arith}
+use borrow.Author.Tests.{lt-ltb, le-ltb}
+use lib.Dec.{ltb}
+use lib.ListN.{length, getD, take, drop, drop-of-length-le, length-map, List·getD-map}
+use lib.Seq.{drop-cons, take-suc}
+use Rattle.layout.specs.Refusal.{passed, refused, first}
+use Rattle.layout.proofs.Rows.{first-here, first-skip}
+use Rattle.patterns.specs.Outcome.{outcome, outcomes, outcomeRows}
+
+module _ (b : List ℕ) (i : ℕ) where
+  pub outcome-good : i < length b → getD b i 0 ≤ 1 → first (outcomeRows (drop i b) i) ≡ first (outcomeRows (drop (i + 1) b) (i + 1))
+  unfolding outcomeRows
+  outcome-good h g =
+      ap (λ z. first (outcomeRows z i)) (drop-cons b i 0 h)
+      ∙ first-skip 13 i (ltb 1 (getD b i 0)) _ (le-ltb 1 (getD b i 0) g)
+      ∙ ap (λ z. first (outcomeRows (drop z b) z)) (sym (add-one i))
+
+  pub outcome-bad : i < length b → 1 < getD b i 0 → first (outcomeRows (drop i b) i) ≡ refused 13 i
+  unfolding outcomeRows
+  outcome-bad h g =
+      ap (λ z. first (outcomeRows z i)) (drop-cons b i 0 h)
+      ∙ first-here 13 i (ltb 1 (getD b i 0)) _ (lt-ltb 1 (getD b i 0) g)
+
+  pub outcome-end : length b ≤ i → first (outcomeRows (drop i b) i) ≡ passed
+  unfolding outcomeRows first
+  outcome-end h = ap (λ z. first (outcomeRows z i)) (drop-of-length-le b {i = i} h)
+
+-- the outcomes of one byte more
+pub outcomes-more : (b : List ℕ) (i : ℕ) → i < length b → take (i + 1) (outcomes b) ≡ take i (outcomes b) ++ outcome (getD b i 0) ∷ []
+outcomes-more b i h =
+    ap (λ z. take z (outcomes b)) (add-one i)
+    ∙ take-suc (outcomes b) i false (omega (arith, length-map b outcome))
+    ∙ ap {B = List Bool} (λ z. take i (outcomes b) ++ z ∷ []) (List·getD-map outcome b i 0)
