@@ -19,7 +19,7 @@ use Rattle.meaning.proofs.TwoKinds.{length-window}
 use Rattle.meaning.proofs.MissMore.{recent-suc, recent-snoc}
 use Rattle.history.specs.History.{historyOf, pushed, newest}
 
-length-recent : (p : List Bool) (n : ℕ) → length (recent p n) ≡ n
+pub length-recent : (p : List Bool) (n : ℕ) → length (recent p n) ≡ n
 length-recent p n = length-window (around p) (pos (length p) -ℤ pos n) n
 
 pub history-start : (m : ℕ) → historyOf m [] ≡ 2 ^ m - 1
@@ -43,7 +43,7 @@ odd-bit : (a : Bool) → eqb (bit a % 2) 1 ≡ a
 odd-bit true = refl
 odd-bit false = refl
 
-newest-top : (n v : ℕ) (a : Bool) → v < 2 ^ n → newest (suc n) (bit a * 2 ^ n + v) ≡ newest n v ++ a ∷ []
+pub newest-top : (n v : ℕ) (a : Bool) → v < 2 ^ n → newest (suc n) (bit a * 2 ^ n + v) ≡ newest n v ++ a ∷ []
 unfolding newest
 newest-top zero v a h =
     let e : bit a * 1 + v ≡ bit a = omega arith in
@@ -59,7 +59,7 @@ newest-skip (suc n) d v a =
     rw (suc-add, block-half (bit a) (n + d) v, block-odd (bit a) (n + d) v)
     (ap {B = List Bool} (λ z. eqb (v % 2) 1 ∷ z) (newest-skip n d (v / 2) a))
 
-newest-number : (w : List Bool) → newest (length w) (number w) ≡ reverse w
+pub newest-number : (w : List Bool) → newest (length w) (number w) ≡ reverse w
 unfolding newest
 newest-number [] = refl
 newest-number (a ∷ w) = unfold newest in newest-top (length w) (number w) a (number-lt w) ∙ ap (λ z. z ++ a ∷ []) (newest-number w) ∙ sym (reverse-cons a w)

@@ -102,7 +102,7 @@ window-early p zero n h = refl
 window-early p (suc k) zero h = let e : k ≡ zero = omega arith in rw e
 window-early p (suc k) (suc n) h = ap {B = List Bool} (λ z. true ∷ z) (window-early p k n (omega arith))
 
-neg-back : (n k : ℕ) → suc n ≤ k → pos (k - suc n) -ℤ pos k ≡ negsuc n
+pub neg-back : (n k : ℕ) → suc n ≤ k → pos (k - suc n) -ℤ pos k ≡ negsuc n
 neg-back n k h =
     ap (λ z. z -ℤ pos k) (sym (ap (λ b. cond b (negsuc (suc n - suc k)) (pos (k - suc n))) (le-ltb k (suc n) h)))
     ∙ +ℤ-negℤ-cancel (negsuc n) (pos k)

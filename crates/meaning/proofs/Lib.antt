@@ -7,3 +7,4 @@ pub mod SetLaws
 pub mod Search
 pub mod Unique
 pub mod Witness
+pub mod WorkedRows

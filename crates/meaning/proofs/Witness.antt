@@ -25,7 +25,7 @@ width-allowed w (AnyMiss x k) (a, b, c) = (a, b)
 width-allowed w (RowMiss x) a = (omega arith, a)
 
 -- a window of a pattern with hits around it, taken as a pattern, has itself as a window
-window-itself : (v : List Bool) → window (around v) (pos zero) (length v) ≡ v
+pub window-itself : (v : List Bool) → window (around v) (pos zero) (length v) ≡ v
 window-itself v = window-drop v (length v) zero (omega arith)
 
 module _ (l : Rule) (p : List Bool) (i : ℤ) where

@@ -1,0 +1,4 @@
+pub mod Turns
+pub mod Accepted
+pub mod RoundTrip
+pub mod OneResult

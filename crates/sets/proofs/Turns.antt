@@ -1,0 +1,105 @@
+-- What a turn of each loop does to the definition that the loop computes: of a list from limit i on, its first limit comes off, or one more is put on. Assumes nothing.
+use mathlib.Core.Path.{_≡_, refl, sym, ap, ap₂, _∙_}
+use mathlib.Core.List.{List, [], _∷_, _++_, append-assoc, append-nil}
+use Prim.Native.Nat.{ℕ, zero, suc, _+_, _-_, _*_, _≤_, _<_}
+use native.Mathlib.Nat.{zero-add, add-zero}
+use native.Mathlib.Numerals.{add-one}
+use native.Mathlib.Omega.{arith}
+use lib.ListN.{length, replicate, set, take, drop, length-append, take-append-drop}
+use lib.Seq.{set-at, take-at, length-take-le, drop-append-add, drop-drop}
+use Rattle.layout.specs.Refusal.{Tested, passed, refused, first}
+use Rattle.layout.proofs.Rows.{and-then, first-append}
+use Rattle.meaning.specs.declared.LimitSet.{LimitSet}
+use Rattle.meaning.specs.Sets.{zeroLimit, limitAt}
+use Rattle.sets.specs.Bytes.{limitIn, limitsIn, setWith, bytesOfLimit, limitBytes}
+use Rattle.sets.specs.Rows.{limitRows, limitsRows, faultRow}
+
+fault-found : (n i : ℕ) → (n ≡ 0 → ⊥) → faultRow n i ≡ refused n i
+fault-found zero i h = absurd (h refl)
+fault-found (suc n) i h = refl
+
+module _ (w : ℕ) (s : LimitSet) (i c : ℕ) where
+  abbrev later : Tested
+  later = first (limitsRows w s (i + 1) (c - (i + 1)))
+
+  limits-turn : i < c → first (limitsRows w s i (c - i)) ≡ and-then (first (limitRows w (limitAt s i) i)) later
+  unfolding limitsRows
+  limits-turn h =
+      let g : c - i ≡ suc (c - (i + 1)) = omega arith in
+      rw (g, add-one) (first-append (limitRows w (limitAt s i) i) (limitsRows w s (suc i) (c - suc i)))
+
+  module _ (n : ℕ) (h : i < c) (e : first (limitRows w (limitAt s i) i) ≡ faultRow n i) where
+    pub limits-faulty : (n ≡ 0 → ⊥) → first (limitsRows w s i (c - i)) ≡ refused n i
+    limits-faulty f = limits-turn h ∙ ap (λ t. and-then t later) (e ∙ fault-found n i f)
+
+    pub limits-faultless : n ≡ 0 → first (limitsRows w s i (c - i)) ≡ later
+    limits-faultless f = limits-turn h ∙ ap (λ t. and-then t later) (e ∙ ap (λ z. faultRow z i) f)
+
+  pub limits-end : c ≤ i → first (limitsRows w s i (c - i)) ≡ passed
+  unfolding limitsRows first
+  limits-end h = let g : c - i ≡ zero = omega arith in rw g
+
+-- a list that is f i, f (i + 1), .. in a row, one more
+module _ {A : Type 0} (f : ℕ → List A) (F : ℕ → ℕ → List A) (none : (i : ℕ) → F i zero ≡ []) (more : (i n : ℕ) → F i (suc n) ≡ f i ++ F (suc i) n) where
+  snoc : (i n : ℕ) → F i (suc n) ≡ F i n ++ f (i + n)
+  snoc i zero = more i zero ∙ simp (none, append-nil, add-zero)
+  snoc i (suc n) =
+      let g : suc i + n ≡ i + suc n = omega arith in
+      more i (suc n)
+      ∙ ap (λ l. f i ++ l) (snoc (suc i) n)
+      ∙ sym (append-assoc (f i) (F (suc i) n) (f (suc i + n)))
+      ∙ ap₂ (λ l j. l ++ f j) (sym (more i n)) g
+
+  one-more : (n : ℕ) → F 0 n ++ f n ≡ F 0 (n + 1)
+  one-more n = sym (rw (add-one, snoc 0 n, zero-add))
+
+limits-one-more : (b : List ℕ) (i : ℕ) → limitsIn b 0 i ++ limitIn b i ∷ [] ≡ limitsIn b 0 (i + 1)
+unfolding limitsIn
+limits-one-more b = one-more (λ j. limitIn b j ∷ []) (limitsIn b) (λ i. refl) (λ i n. refl)
+
+bytes-one-more : (s : LimitSet) (i : ℕ) → limitBytes s 0 i ++ bytesOfLimit (limitAt s i) ≡ limitBytes s 0 (i + 1)
+unfolding limitBytes
+bytes-one-more s = one-more (λ j. bytesOfLimit (limitAt s j)) (limitBytes s) (λ i. refl) (λ i n. refl)
+
+pub length-in : (b : List ℕ) (i n : ℕ) → length (limitsIn b i n) ≡ n
+unfolding limitsIn
+length-in b i zero = refl
+length-in b i (suc n) = ap suc (length-in b (suc i) n)
+
+pub set-turn : (b : List ℕ) (i : ℕ) → i < 8 → set (setWith b i .limits) i (limitIn b i) ≡ setWith b (i + 1) .limits
+set-turn b i h =
+    let g : 8 - i ≡ suc (8 - (i + 1)) = omega arith in
+    let rest = replicate (8 - (i + 1)) zeroLimit in
+    ap (λ n. set (limitsIn b 0 i ++ replicate n zeroLimit) i (limitIn b i)) g
+    ∙ set-at (limitsIn b 0 i) zeroLimit rest (limitIn b i) i (length-in b 0 i)
+    ∙ sym (append-assoc (limitsIn b 0 i) (limitIn b i ∷ []) rest)
+    ∙ ap (λ l. l ++ rest) (limits-one-more b i)
+
+-- what is written so far is p, and d goes on after it; vs is written next
+pub put-next : (d p vs : List ℕ) (at n : ℕ) → length p ≡ at → take at (p ++ drop at d) ++ vs ++ drop (at + n) (p ++ drop at d) ≡ p ++ vs ++ drop (at + n) d
+put-next d p vs at n e =
+    ap₂ (λ a b. a ++ vs ++ b) (take-at p (drop at d) at e)
+    (ap (λ k. drop (k + n) (p ++ drop at d)) (sym e) ∙ drop-append-add p (drop at d) n ∙ drop-drop n at d)
+
+pub length-bytes : (s : LimitSet) (i n : ℕ) → length (limitBytes s i n) ≡ 3 * n
+unfolding limitBytes
+length-bytes s i zero = refl
+length-bytes s i (suc n) = let h = length-bytes s (suc i) n in omega arith
+
+abbrev pub writtenTo : LimitSet → List ℕ → ℕ → List ℕ
+writtenTo s d i = take 6 d ++ limitBytes s 0 i ++ drop (6 + 3 * i) d
+
+pub write-none : (s : LimitSet) (d : List ℕ) → d ≡ writtenTo s d 0
+unfolding limitBytes
+write-none s d = sym (ap (λ l. l ++ drop 6 d) (append-nil (take 6 d)) ∙ take-append-drop 6 d)
+
+pub write-turn : (s : LimitSet) (d out out′ : List ℕ) (i : ℕ) → 6 ≤ length d → out ≡ writtenTo s d i
+    → out′ ≡ take (6 + 3 * i) out ++ bytesOfLimit (limitAt s i) ++ drop (6 + 3 * i + 3) out → out′ ≡ writtenTo s d (i + 1)
+write-turn s d out out′ i h e f =
+    let p = take 6 d ++ limitBytes s 0 i in
+    let v = bytesOfLimit (limitAt s i) in
+    let n : length p ≡ 6 + 3 * i = length-append (take 6 d) (limitBytes s 0 i) ∙ ap₂ _+_ (length-take-le 6 d h) (length-bytes s 0 i) in
+    let g : 6 + 3 * i + 3 ≡ 6 + 3 * (i + 1) = omega arith in
+    f ∙ ap (λ o. take (6 + 3 * i) o ++ v ++ drop (6 + 3 * i + 3) o) e
+    ∙ put-next d p v (6 + 3 * i) 3 n
+    ∙ ap₂ (λ l k. l ++ drop k d) (append-assoc (take 6 d) (limitBytes s 0 i) v ∙ ap (λ l. take 6 d ++ l) (bytes-one-more s i)) g

@@ -1,0 +1,73 @@
+-- `sets::test_limits` meets its contract. The invariant: the rows from limit i on decide. Assumes nothing.
+use mathlib.Core.Path.{_≡_, sym, _∙_}
+use Prim.Native.Nat.{_-_, _≤_}
+use native.Mathlib.Nat.{sub-zero}
+use native.Mathlib.Omega.{arith}
+use borrow.Author.Needs.{needs}
+use Rattle.layout.specs.Refusal.{first}
+use Rattle.sets.specs.Rows.{limitsRows}
+use Rattle.sets.proofs.Turns.{limits-faulty, limits-faultless, limits-end}
+use Rattle.sets.proofs.test_limits.Statement.{statement}
+use Rattle.sets.proofs.test_limits.Tie as tie
+
+abbrev Inv-loop : tie.InvT-loop
+Inv-loop longest set count i₀ i = (i ≤ set .count) × (first (limitsRows longest set 0 (set .count)) ≡ first (limitsRows longest set i (set .count - i)))
+
+abbrev μ-loop : tie.MeasureT-loop
+μ-loop longest set count i₀ i = set .count - i
+
+loop-holds : tie.Need-loop-holds Inv-loop μ-loop
+loop-holds c = (omega arith, rw sub-zero)
+
+mul-limit : tie.Need-mul-limit Inv-loop μ-loop
+mul-limit c = search needs
+
+element-copy-out-limit : tie.Need-element-copy-out-limit Inv-loop μ-loop
+element-copy-out-limit c = search needs
+
+fault-requires : tie.Need-fault-requires Inv-loop μ-loop
+fault-requires c κs = search needs
+
+returns : tie.Need-returns Inv-loop μ-loop
+returns c =
+    let f = c .before .fault in
+    let l = c .before .before .before .before in
+    let s = l .before .args in
+    sym (l .loop .inv .1 ∙ limits-faulty (s .longest) (s .t1) (l .loop .i) (s .t1 .count) (f .result) (omega arith) (f .ensures (l .loop .i)) (c .if1 .taken))
+
+add-i : tie.Need-add-i Inv-loop μ-loop
+add-i c = search needs
+
+loop-less : tie.Need-loop-less Inv-loop μ-loop
+loop-less c = search needs
+
+loop-again : tie.Need-loop-again Inv-loop μ-loop
+loop-again c =
+    let f = c .before .fault in
+    let l = c .before .before .before .before in
+    let s = l .before .args in (
+      omega arith,
+      l .loop .inv .1 ∙ limits-faultless (s .longest) (s .t1) (l .loop .i) (s .t1 .count) (f .result) (omega arith) (f .ensures (l .loop .i)) (c .if1 .left),
+    )
+
+returns-2 : tie.Need-returns-2 Inv-loop μ-loop
+returns-2 c =
+    let l = c .before in
+    let s = l .before .args in
+    sym (l .loop .inv .1 ∙ limits-end (s .longest) (s .t1) (l .loop .i) (s .t1 .count) (omega arith))
+
+pub test-limits-spec : {M : Type 1} → statement M
+test-limits-spec =
+    tie.close
+    (tie.spec
+    Inv-loop
+    μ-loop
+    loop-holds
+    mul-limit
+    element-copy-out-limit
+    fault-requires
+    returns
+    add-i
+    loop-less
+    loop-again
+    returns-2)

@@ -1,0 +1,4 @@
+pub mod Bytes
+pub mod Rows
+pub mod Read
+pub mod Write

@@ -1,0 +1,54 @@
+-- Refusals 1 to 7, as rows in the order tested.
+use mathlib.Core.Bool.{Bool, not, cond, _||_}
+use mathlib.Core.List.{List, [], _∷_, _++_}
+use Prim.Native.Nat.{ℕ, zero, suc, _+_, _-_, _*_}
+use lib.Dec.{eqb, ltb, leb}
+use lib.ListN.{length}
+use Rattle.layout.specs.Bytes.{lengthField, version}
+use Rattle.layout.specs.Refusal.{Row, row, Tested, passed, refused}
+use Rattle.meaning.specs.declared.Limit.{Limit}
+use Rattle.meaning.specs.declared.LimitSet.{LimitSet}
+use Rattle.meaning.specs.Sets.{limitAt}
+use Rattle.sets.specs.Bytes.{countOf, setOf}
+
+-- "k outside its range (for kind 3: not 0)": "k 1 to 12", with the longest window for 12
+abbrev pub kOutside : (longest : ℕ) → Limit → Bool
+kOutside longest l = cond (eqb (l .kind) 3) (not (eqb (l .k) 0)) (eqb (l .k) 0 || ltb longest (l .k))
+
+-- "x outside its range": "x 0 to k", and for kind 3 "x 0 to 11", one less than the longest window
+abbrev pub xOutside : (longest : ℕ) → Limit → Bool
+xOutside longest l = cond (eqb (l .kind) 3) (leb longest (l .x)) (ltb (l .k) (l .x))
+
+-- limit number i
+abbrev pub limitRows : (longest : ℕ) → Limit → (i : ℕ) → List Row
+limitRows longest l i = row 5 (ltb 3 (l .kind)) i ∷ row 6 (kOutside longest l) i ∷ row 7 (xOutside longest l) i ∷ []
+
+-- "Limits are tested first to last, each for 5, 6, 7": the n limits from limit i on
+unfoldable pub limitsRows : (longest : ℕ) → LimitSet → (i n : ℕ) → List Row
+limitsRows longest s i zero = []
+limitsRows longest s i (suc n) = limitRows longest (limitAt s i) i ++ limitsRows longest s (suc i) n
+
+-- "c is 0 or above 8"
+abbrev pub countRow : ℕ → Row
+countRow c = row 3 (eqb c 0 || ltb 8 c) 0
+
+abbrev pub headRows : List ℕ → List Row
+headRows b =
+    row 1 (ltb (length b) 6 || not (eqb (lengthField b) (length b - 4))) 0
+    ∷ row 2 (not (eqb (version b) 1)) 0
+    ∷ countRow (countOf b)
+    ∷ row 4 (not (eqb (lengthField b) (2 + 3 * countOf b))) 0
+    ∷ []
+
+-- the bytes of a set
+abbrev pub setRows : (longest : ℕ) → List ℕ → List Row
+setRows longest b = headRows b ++ limitsRows longest (setOf b) 0 (countOf b)
+
+-- a set that is in memory already
+abbrev pub memoryRows : (longest : ℕ) → LimitSet → List Row
+memoryRows longest s = countRow (s .count) ∷ limitsRows longest s 0 (s .count)
+
+-- what a number, 0 for none, says of limit i
+abbrev pub faultRow : ℕ → ℕ → Tested
+faultRow zero i = passed
+faultRow (suc n) i = refused (suc n) i

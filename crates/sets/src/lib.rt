@@ -1,0 +1,173 @@
+// The bytes of a set of limits, read and written.
+// Reading refuses by 1 to 7; writing a set that is already in memory by 3, 5, 6, 7 and then by 9.
+ghost use mathlib.Core.Path.{_≡_};
+ghost use Prim.Native.Nat.{ℕ, _+_, _*_, _≤_};
+ghost use lib.ListN.{length};
+ghost use Rattle.layout.specs.Refusal.{first};
+ghost use Rattle.meaning.specs.Longest.{longest};
+ghost use Rattle.sets.specs.Rows.{limitRows, limitsRows, headRows, faultRow};
+ghost use Rattle.sets.specs.Bytes.{setOf, countOf};
+ghost use Rattle.sets.specs.Read.{says, refusedRead, ReadAs};
+
+mod write;
+
+use layout::Refusal;
+use meaning::Limit;
+use meaning::LimitSet;
+pub use write::write_set;
+
+pub enum SetAnswer {
+    Accepted,
+    Refused(Refusal),
+}
+
+// What reading gives: a refusal's set has count 0 and all its places zero.
+pub struct SetRead {
+    pub answer: SetAnswer,
+    pub set: LimitSet,
+}
+
+pub enum SetWritten {
+    Written(usize),
+    Refused(Refusal),
+}
+
+// 0 for a limit with allowed numbers, else 5, 6 or 7.
+fn fault(limit: Limit, longest: u8) -> u8
+    ensures { λ r. ⌜ ((i : ℕ) → first (limitRows longest limit i) ≡ faultRow r i) ⌝ }
+{
+    let kind = limit.kind;
+    let x = limit.x;
+    let k = limit.k;
+    if 3 < kind {
+        return 5;
+    }
+    if kind == 3 {
+        if k != 0 {
+            return 6;
+        }
+        if longest <= x {
+            return 7;
+        }
+        return 0;
+    }
+    if k == 0 {
+        return 6;
+    }
+    if longest < k {
+        return 6;
+    }
+    if k < x {
+        return 7;
+    }
+    0
+}
+
+// Limits are tested first to last, each for 5, 6, 7.
+fn test_limits(set: LimitSet, longest: u8) -> SetAnswer
+    requires { ⌜ set .count ≤ 8 ⌝ }
+    ensures { λ r. ⌜ says r ≡ first (limitsRows longest set 0 (set .count)) ⌝ }
+{
+    let count = set.count;
+    let mut i = 0;
+    while i < count {
+        let limit = set.limits[i];
+        let number = fault(limit, longest);
+        if number != 0 {
+            return SetAnswer::Refused(Refusal { number, at: i });
+        }
+        i += 1;
+    }
+    SetAnswer::Accepted
+}
+
+// Tests 1 to 4.
+fn test_head(bytes: &[u8]) -> SetAnswer
+    ensures { λ r. ⌜ says r ≡ first (headRows (now (bytes .entry))) ⌝ }
+{
+    let n = bytes.len();
+    if n < 6 {
+        return SetAnswer::Refused(Refusal { number: 1, at: 0 });
+    }
+    let rest = layout::length_field(bytes);
+    if rest != n - 4 {
+        return SetAnswer::Refused(Refusal { number: 1, at: 0 });
+    }
+    if bytes[4] != 1 {
+        return SetAnswer::Refused(Refusal { number: 2, at: 0 });
+    }
+    let count = layout::wide(bytes[5]);
+    if count == 0 {
+        return SetAnswer::Refused(Refusal { number: 3, at: 0 });
+    }
+    if 8 < count {
+        return SetAnswer::Refused(Refusal { number: 3, at: 0 });
+    }
+    if rest != 2 + 3 * count {
+        return SetAnswer::Refused(Refusal { number: 4, at: 0 });
+    }
+    SetAnswer::Accepted
+}
+
+// The limits that the bytes hold, as they are.
+fn take_limits(bytes: &[u8], count: usize) -> LimitSet
+    requires { ⌜ (count ≡ countOf (now bytes)) × (count ≤ 8) × (6 + 3 * count ≤ length (now bytes)) ⌝ }
+    ensures { λ r. ⌜ r ≡ setOf (now (bytes .entry)) ⌝ }
+{
+    let none = Limit {
+        kind: 0,
+        x: 0,
+        k: 0,
+    };
+    let mut limits = [none; 8];
+    let mut i = 0;
+    while i < count {
+        let at = 6 + 3 * i;
+        limits[i] = Limit {
+            kind: bytes[at],
+            x: bytes[at + 1],
+            k: bytes[at + 2],
+        };
+        i += 1;
+    }
+    LimitSet { count, limits }
+}
+
+fn refused(number: u8, at: usize) -> SetRead
+    ensures { λ r. ⌜ r ≡ refusedRead number at ⌝ }
+{
+    let none = Limit {
+        kind: 0,
+        x: 0,
+        k: 0,
+    };
+    SetRead {
+        answer: SetAnswer::Refused(Refusal { number, at }),
+        set: LimitSet {
+            count: 0,
+            limits: [none; 8],
+        },
+    }
+}
+
+// Reads a set whose windows are at most `longest` jobs.
+pub fn read_set_within(bytes: &[u8], longest: u8) -> SetRead
+    ensures { λ r. ⌜ ReadAs longest (now (bytes .entry)) r ⌝ }
+{
+    let head = test_head(bytes);
+    if let SetAnswer::Refused(refusal) = head {
+        return refused(refusal.number, refusal.at);
+    }
+    let set = take_limits(bytes, layout::wide(bytes[5]));
+    let answer = test_limits(set, longest);
+    if let SetAnswer::Refused(refusal) = answer {
+        return refused(refusal.number, refusal.at);
+    }
+    SetRead { answer, set }
+}
+
+pub fn read_set(bytes: &[u8]) -> SetRead
+    ensures { λ r. ⌜ ReadAs longest (now (bytes .entry)) r ⌝ }
+{
+    read_set_within(bytes, meaning::LONGEST_WINDOW)
+}

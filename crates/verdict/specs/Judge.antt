@@ -1,0 +1,37 @@
+-- "Lost at job j." "The verdict tests 1 to 7, then the whole pattern for 13, even if it is lost earlier."
+use mathlib.Core.Path.{_≡_}
+use mathlib.Core.Bool.{Bool}
+use mathlib.Core.List.{List, _++_}
+use Prim.Native.Nat.{ℕ}
+use Rattle.layout.specs.Refusal.{Row, Tested, passed, refused, first}
+use Rattle.patterns.specs.Outcome.{outcomes, outcomeRows}
+use Rattle.meaning.specs.declared.LimitSet.{LimitSet}
+use Rattle.meaning.specs.Sets.{KeptBy, LostAt}
+use Rattle.sets.specs.Bytes.{setOf}
+use Rattle.sets.specs.Rows.{setRows}
+use Rattle.verdict.specs.declared.Judgement.{Judgement}
+use Rattle.verdict.specs.declared.Judgement.the-variants.{Kept, Lost, Refused}
+
+abbrev pub judgeRows : (longest : ℕ) → (set pattern : List ℕ) → List Row
+judgeRows longest set pattern = setRows longest set ++ outcomeRows pattern 0
+
+-- the number of each answer, and what else is returned
+abbrev pub says : Judgement → Tested
+says Kept = passed
+says (Lost job limit) = passed
+says (Refused r) = refused (r .number) (r .at)
+
+-- what an answer that isn't a refusal says of the pattern
+abbrev pub Verdict : LimitSet → List Bool → Judgement → Type 0
+Verdict s p Kept = KeptBy s p
+Verdict s p (Lost job limit) = LostAt s p job limit
+Verdict s p (Refused r) = Unit {0}
+
+pub record JudgedAs (longest : ℕ) (set pattern : List ℕ) (r : Judgement) : Type 0 where
+  pub refusal : says r ≡ first (judgeRows longest set pattern)
+  pub verdict : Verdict (setOf set) (outcomes pattern) r
+
+-- the same of a set that has been read, and outcomes that have been tested
+pub record Judged (s : LimitSet) (p : List Bool) (r : Judgement) : Type 0 where
+  pub accepted : says r ≡ passed
+  pub verdict : Verdict s p r
