@@ -60,8 +60,7 @@ module _ (s : LimitSet) (j : ℕ) (ok : SetAllowed (suc (suc j)) s) (h : ℕ) (s
   pub back-hit : (h % 2 ≡ 0 → ⊥) → KeptBy s (outcomesOf (suc j) h) ↔ KeptBy s (outcomesOf (suc j) (h / 2 + 2 ^ j))
   back-hit n =
       let o : h % 2 ≡ 1 = omega arith in
-      let e = newest-is true (eq-eqb (h % 2) 1 o) in
-      (
+      let e = newest-is true (eq-eqb (h % 2) 1 o) in (
         λ k. rest-kept .1 (kept-by-prefix s rest (true ∷ []) (subst (λ z. KeptBy s z) e k)),
         λ k. subst (λ z. KeptBy s z) (sym e) (kept-by-hit s rest (rest-kept .0 k)),
       )
@@ -71,8 +70,7 @@ module _ (s : LimitSet) (j : ℕ) (ok : SetAllowed (suc (suc j)) s) (h : ℕ) (s
 
   pub back-miss : h % 2 ≡ 0 → mayMiss s (h / 2 + 2 ^ j) ≡ true → KeptBy s (outcomesOf (suc j) h) ↔ KeptBy s (outcomesOf (suc j) (h / 2 + 2 ^ j))
   back-miss z t =
-      let e = miss-is z in
-      (
+      let e = miss-is z in (
         λ k. rest-kept .1 (kept-by-prefix s rest (false ∷ []) (subst (λ z. KeptBy s z) e k)),
         λ k. subst (λ z. KeptBy s z) (sym e) (may-miss-kept (suc j) rest s ok (rest-kept .0 k) .0 (T-of _ (ap (mayMiss s) before-history ∙ t))),
       )
@@ -88,5 +86,5 @@ pub all-hits-kept : (s : LimitSet) (m : ℕ) → SetAllowed (suc m) s → (h : �
 all-hits-kept s m ok h e =
     let l = length-replicate m true in
     let f : outcomesOf m h ≡ replicate m true =
-        number-injective (outcomesOf m h) (replicate m true) (outcomes-length m h ∙ sym l) (omega (arith, outcomes-number m h (omega arith), number-hits m)) in
+    number-injective (outcomesOf m h) (replicate m true) (outcomes-length m h ∙ sym l) (omega (arith, outcomes-number m h (omega arith), number-hits m)) in
     subst (λ z. KeptBy s z) (sym f) (subst (λ z. KeptBy s z) (append-nil (replicate m true)) (kept-by-hits-before s m [] (kept-by-empty s (suc m) ok)))

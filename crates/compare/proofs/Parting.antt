@@ -41,8 +41,7 @@ module _ (a b : LimitSet) (m : ℕ) (oka : SetAllowed (suc m) a) (okb : SetAllow
 
   pub split-between : (q : List Bool) → length q ≤ m → Splits a b m (historyOf m q) → Between a b (q ++ false ∷ [])
   split-between q short s =
-      let k = kept-by-after-hits a (m - length q) q (subst (λ z. KeptBy a z) (outcomes-history m q short) (s .first-keeps)) in
-      (
+      let k = kept-by-after-hits a (m - length q) q (subst (λ z. KeptBy a z) (outcomes-history m q short) (s .first-keeps)) in (
         may-miss-kept m q a oka k .0 (T-of _ (s .first-may)),
         λ n. subst (λ z. T z) (s .second-may-not) (may-miss-kept m q b okb (kept-by-prefix b q (false ∷ []) n) .1 n),
       )
@@ -52,8 +51,7 @@ module _ (a b : LimitSet) (m : ℕ) (oka : SetAllowed (suc m) a) (okb : SetAllow
   parting p (ka, nb) =
       let (q, rest, e, kq, lq) = first-loss b [] p (kept-by-empty b (suc m) okb) nb in
       let f : p ≡ (q ++ false ∷ []) ++ rest = e ∙ sym (append-assoc q (false ∷ []) rest) in
-      let kaq = kept-by-prefix a (q ++ false ∷ []) rest (subst (λ z. KeptBy a z) f ka) in
-      (
+      let kaq = kept-by-prefix a (q ++ false ∷ []) rest (subst (λ z. KeptBy a z) f ka) in (
         q,
         record { under-first = kaq; kept-second = kq; lost-second = lq },
         subst (λ z. NoLater (q ++ false ∷ []) z) (sym f) (beginning-no-later (q ++ false ∷ []) rest),

@@ -32,13 +32,13 @@ in-turn passed passed = both-passed
 abbrev pub says : CompareAnswer → BothTested
 says Covers = both-passed
 says Between = both-passed
-says (Refused which r) = one-refused which (r .number) (r .at)
+says (Refused which number at) = one-refused which number at
 
 -- what an answer says of two sets, and the pattern beside it; "a pattern of length 0" where there is none
 abbrev pub Answers : LimitSet → LimitSet → CompareAnswer → Pattern → Type 0
 Answers a b Covers p = covers.Covers a b × (p ≡ packed [])
 Answers a b Between p = (q : List Bool) × covers.FirstBetween a b q × (p ≡ packed q)
-Answers a b (Refused which r) p = p ≡ packed []
+Answers a b (Refused which number at) p = p ≡ packed []
 
 pub record ComparedAs (longest : ℕ) (first-set second-set : List ℕ) (r : Compared) : Type 0 where
   pub refusal : says (r .answer) ≡ in-turn (first (setRows longest first-set)) (first (setRows longest second-set))
@@ -50,4 +50,4 @@ pub record Compares (a b : LimitSet) (r : Compared) : Type 0 where
   pub answer : Answers a b (r .answer) (r .pattern)
 
 abbrev pub refusedFor : (which number at : ℕ) → Compared
-refusedFor which number at = record { answer = Refused which (record { number = number; at = at }); pattern = packed [] }
+refusedFor which number at = record { answer = Refused which number at; pattern = packed [] }

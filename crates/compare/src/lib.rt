@@ -9,7 +9,6 @@ ghost use Rattle.meaning.specs.Longest.{longest};
 ghost use Rattle.meaning.specs.Sets.{SetAllowed, KeptBy};
 ghost use Rattle.compare.specs.Compare.{packed, refusedFor, Compares, ComparedAs};
 ghost use Rattle.compare.specs.Splits.{outcomesOf, Splits, Scanned};
-use layout::Refusal;
 use meaning::LimitSet;
 
 // A pattern of at most 16 jobs, one byte an outcome; places past the length are 0.
@@ -21,7 +20,7 @@ pub struct Pattern {
 pub enum CompareAnswer {
     Covers,
     Between,
-    Refused { which: u8, refusal: Refusal },
+    Refused { which: u8, number: u8, at: usize },
 }
 
 // The pattern is the first one between the sets, or of length 0 where there is none.
@@ -135,11 +134,11 @@ fn search(first: LimitSet, second: LimitSet) -> Compared
     }
 }
 
-fn refused(which: u8, refusal: Refusal) -> Compared
-    ensures { λ r. ⌜ r ≡ refusedFor which (refusal .number) (refusal .at) ⌝ }
+fn refused(which: u8, number: u8, at: usize) -> Compared
+    ensures { λ r. ⌜ r ≡ refusedFor which number at ⌝ }
 {
     Compared {
-        answer: CompareAnswer::Refused { which, refusal },
+        answer: CompareAnswer::Refused { which, number, at },
         pattern: no_pattern(),
     }
 }
@@ -149,13 +148,13 @@ pub fn compare(first: &[u8], second: &[u8]) -> Compared
 {
     let a = sets::read_set(first);
     let answer = a.answer;
-    if let sets::SetAnswer::Refused(refusal) = answer {
-        return refused(1, refusal);
+    if let sets::SetAnswer::Refused { number, at } = answer {
+        return refused(1, number, at);
     }
     let b = sets::read_set(second);
     let answer = b.answer;
-    if let sets::SetAnswer::Refused(refusal) = answer {
-        return refused(2, refusal);
+    if let sets::SetAnswer::Refused { number, at } = answer {
+        return refused(2, number, at);
     }
     search(a.set, b.set)
 }

@@ -45,16 +45,14 @@ module _ (m : ℕ) (p : List Bool) where
   run-newest : (x n : ℕ) → n ≤ m → T (hasRun x (newest n (historyOf m p))) ↔ Run x (recent p n)
   run-newest x n h =
       let e = newest-history m p n h in
-      let w = newest n (historyOf m p) in
-      (
+      let w = newest n (historyOf m p) in (
         λ t. run-unreverse x (recent p n) (subst (λ z. Run x z) e (run-iff x w .0 t)),
         λ r. run-iff x w .1 (subst (λ z. Run x z) (sym e) (run-reverse x (recent p n) r)),
       )
 
   decides-row : (x k : ℕ) → 1 ≤ k → k ≤ suc m → x ≤ k → Decides (hasRun x (newest (k - x) (historyOf m p))) (RowHit x k) p
   decides-row zero k wide short fits h =
-      let s = miss-more-row zero k p fits h in
-      (
+      let s = miss-more-row zero k p fits h in (
         λ t. s .1 ([], recent p (k - zero), refl),
         λ g. run-iff zero (newest (k - zero) (historyOf m p)) .1 ([], newest (k - zero) (historyOf m p), refl),
       )

@@ -1,14 +1,9 @@
-// What every layout and every refusal of the rules have in common: a refusal's number with what
-// else is returned, bytes as numbers, and the big-endian length field that opens each layout.
+// What every layout has in common: bytes as numbers, and the big-endian length field that opens it.
+// specs/ also have what every refusal has in common: rows of a table, of which the first that holds decides.
 ghost use mathlib.Core.Path.{_≡_};
 ghost use Prim.Native.Nat.{_≤_, _<_};
 ghost use lib.ListN.{length};
 ghost use Rattle.layout.specs.Bytes.{lengthField};
-
-pub struct Refusal {
-    pub number: u8,
-    pub at: usize,
-}
 
 // A byte as a number that can be added to and compared with lengths.
 pub fn wide(byte: u8) -> usize

@@ -45,8 +45,7 @@ pub short-witness : (a b : LimitSet) (w : ℕ) (p : List Bool) → SetAllowed w 
 short-witness a b w p ok (ka, nb) =
     let (j, lt, nj) = breaking-limit b p nb in
     let l = ruleAt b j in
-    let (i, ni) = breaking-window l p nj in
-    (
+    let (i, ni) = breaking-window l p nj in (
       window (around p) i (width l),
       (window-kept a p i (width l) ka, λ k. window-breaks l p i ni (k j lt)),
       omega (arith, length-window (around p) i (width l), width-allowed w l (ok .each j lt .rule-allowed) .1),

@@ -2,8 +2,6 @@
 use mathlib.Core.Path.{_≡_, refl, sym, ap, ap₂, _∙_}
 use mathlib.Core.List.{List}
 use Prim.Native.Nat.{ℕ}
-use Rattle.layout.specs.declared.Refusal.{Refusal}
-use Rattle.layout.specs.Refusal.{refused}
 use Rattle.layout.proofs.Rows.{passed-not-refused}
 use Rattle.meaning.specs.declared.LimitSet.{LimitSet}
 use Rattle.sets.specs.declared.SetAnswer.{SetAnswer}
@@ -14,23 +12,17 @@ use Rattle.sets.specs.declared.SetWritten.the-variants as written
 use Rattle.sets.specs.Read.{says, ReadAs}
 use Rattle.sets.specs.Write.{says as tells, lengthOf, WrittenAs}
 
-same-refusal : (r r′ : Refusal) → refused (r .number) (r .at) ≡ refused (r′ .number) (r′ .at) → r ≡ r′
-same-refusal r r′ e =
-    let p : r .number ≡ r′ .number = cc in
-    let q : r .at ≡ r′ .at = cc in
-    ap₂ {C = Refusal} (λ n v. record { number = n; at = v }) p q
-
 same-answer : (a a′ : SetAnswer) → says a ≡ says a′ → a ≡ a′
 same-answer answer.Accepted answer.Accepted e = refl
-same-answer answer.Accepted (answer.Refused r) e = absurd (passed-not-refused e)
-same-answer (answer.Refused r) answer.Accepted e = absurd (passed-not-refused (sym e))
-same-answer (answer.Refused r) (answer.Refused r′) e = ap answer.Refused (same-refusal r r′ e)
+same-answer answer.Accepted (answer.Refused n v) e = absurd (passed-not-refused e)
+same-answer (answer.Refused n v) answer.Accepted e = absurd (passed-not-refused (sym e))
+same-answer (answer.Refused n v) (answer.Refused n′ v′) e = cc
 
 same-written : (a a′ : SetWritten) → tells a ≡ tells a′ → lengthOf a ≡ lengthOf a′ → a ≡ a′
 same-written (written.Written n) (written.Written m) e l = ap written.Written l
-same-written (written.Written n) (written.Refused r) e l = absurd (passed-not-refused e)
-same-written (written.Refused r) (written.Written n) e l = absurd (passed-not-refused (sym e))
-same-written (written.Refused r) (written.Refused r′) e l = ap written.Refused (same-refusal r r′ e)
+same-written (written.Written n) (written.Refused k v) e l = absurd (passed-not-refused e)
+same-written (written.Refused k v) (written.Written n) e l = absurd (passed-not-refused (sym e))
+same-written (written.Refused k v) (written.Refused n′ v′) e l = cc
 
 pub read-one-result : (w : ℕ) (b : List ℕ) (r r′ : SetRead) → ReadAs w b r → ReadAs w b r′ → r ≡ r′
 read-one-result w b r r′ p q =

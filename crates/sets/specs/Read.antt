@@ -13,7 +13,7 @@ use Rattle.sets.specs.Rows.{setRows}
 -- the number of each answer, and what else is returned
 abbrev pub says : SetAnswer → Tested
 says Accepted = passed
-says (Refused r) = refused (r .number) (r .at)
+says (Refused number at) = refused number at
 
 -- "Where a refusal's answer must still hold a set, it is a set of count 0"
 abbrev pub setWhen : Tested → List ℕ → LimitSet
@@ -25,4 +25,4 @@ pub record ReadAs (longest : ℕ) (b : List ℕ) (r : SetRead) : Type 0 where
   pub set : r .set ≡ setWhen (first (setRows longest b)) b
 
 abbrev pub refusedRead : ℕ → ℕ → SetRead
-refusedRead number at = record { answer = Refused (record { number = number; at = at }); set = emptySet }
+refusedRead number at = record { answer = Refused number at; set = emptySet }

@@ -20,11 +20,11 @@ writeRows longest s out = memoryRows longest s ++ row 9 (ltb (length out) (sizeO
 -- the number of each answer with what else is returned, and the length written
 abbrev pub says : SetWritten → Tested
 says (Written n) = passed
-says (Refused r) = refused (r .number) (r .at)
+says (Refused number at) = refused number at
 
 abbrev pub lengthOf : SetWritten → ℕ
 lengthOf (Written n) = n
-lengthOf (Refused r) = 0
+lengthOf (Refused number at) = 0
 
 abbrev pub lengthWhen : Tested → LimitSet → ℕ
 lengthWhen passed s = sizeOf s

@@ -11,14 +11,13 @@ ghost use Rattle.sets.specs.Read.{says, refusedRead, ReadAs};
 
 mod write;
 
-use layout::Refusal;
 use meaning::Limit;
 use meaning::LimitSet;
 pub use write::write_set;
 
 pub enum SetAnswer {
     Accepted,
-    Refused(Refusal),
+    Refused { number: u8, at: usize },
 }
 
 // What reading gives: a refusal's set has count 0 and all its places zero.
@@ -29,7 +28,7 @@ pub struct SetRead {
 
 pub enum SetWritten {
     Written(usize),
-    Refused(Refusal),
+    Refused { number: u8, at: usize },
 }
 
 // 0 for a limit with allowed numbers, else 5, 6 or 7.
@@ -74,7 +73,7 @@ fn test_limits(set: LimitSet, longest: u8) -> SetAnswer
         let limit = set.limits[i];
         let number = fault(limit, longest);
         if number != 0 {
-            return SetAnswer::Refused(Refusal { number, at: i });
+            return SetAnswer::Refused { number, at: i };
         }
         i += 1;
     }
@@ -87,24 +86,24 @@ fn test_head(bytes: &[u8]) -> SetAnswer
 {
     let n = bytes.len();
     if n < 6 {
-        return SetAnswer::Refused(Refusal { number: 1, at: 0 });
+        return SetAnswer::Refused { number: 1, at: 0 };
     }
     let rest = layout::length_field(bytes);
     if rest != n - 4 {
-        return SetAnswer::Refused(Refusal { number: 1, at: 0 });
+        return SetAnswer::Refused { number: 1, at: 0 };
     }
     if bytes[4] != 1 {
-        return SetAnswer::Refused(Refusal { number: 2, at: 0 });
+        return SetAnswer::Refused { number: 2, at: 0 };
     }
     let count = layout::wide(bytes[5]);
     if count == 0 {
-        return SetAnswer::Refused(Refusal { number: 3, at: 0 });
+        return SetAnswer::Refused { number: 3, at: 0 };
     }
     if 8 < count {
-        return SetAnswer::Refused(Refusal { number: 3, at: 0 });
+        return SetAnswer::Refused { number: 3, at: 0 };
     }
     if rest != 2 + 3 * count {
-        return SetAnswer::Refused(Refusal { number: 4, at: 0 });
+        return SetAnswer::Refused { number: 4, at: 0 };
     }
     SetAnswer::Accepted
 }
@@ -142,7 +141,7 @@ fn refused(number: u8, at: usize) -> SetRead
         k: 0,
     };
     SetRead {
-        answer: SetAnswer::Refused(Refusal { number, at }),
+        answer: SetAnswer::Refused { number, at },
         set: LimitSet {
             count: 0,
             limits: [none; 8],
@@ -155,13 +154,13 @@ pub fn read_set_within(bytes: &[u8], longest: u8) -> SetRead
     ensures { λ r. ⌜ ReadAs longest (now (bytes .entry)) r ⌝ }
 {
     let head = test_head(bytes);
-    if let SetAnswer::Refused(refusal) = head {
-        return refused(refusal.number, refusal.at);
+    if let SetAnswer::Refused { number, at } = head {
+        return refused(number, at);
     }
     let set = take_limits(bytes, layout::wide(bytes[5]));
     let answer = test_limits(set, longest);
-    if let SetAnswer::Refused(refusal) = answer {
-        return refused(refusal.number, refusal.at);
+    if let SetAnswer::Refused { number, at } = answer {
+        return refused(number, at);
     }
     SetRead { answer, set }
 }

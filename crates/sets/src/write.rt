@@ -13,7 +13,6 @@ ghost use Rattle.sets.specs.Write.{sizeOf, WrittenAs};
 use super::SetAnswer;
 use super::SetWritten;
 use super::test_limits;
-use layout::Refusal;
 use meaning::Limit;
 use meaning::LimitSet;
 
@@ -23,10 +22,10 @@ fn test_memory(set: LimitSet, longest: u8) -> SetAnswer
 {
     let count = set.count;
     if count == 0 {
-        return SetAnswer::Refused(Refusal { number: 3, at: 0 });
+        return SetAnswer::Refused { number: 3, at: 0 };
     }
     if 8 < count {
-        return SetAnswer::Refused(Refusal { number: 3, at: 0 });
+        return SetAnswer::Refused { number: 3, at: 0 };
     }
     test_limits(set, longest)
 }
@@ -72,15 +71,15 @@ pub fn write_set(set: LimitSet, out: &mut [u8]) -> SetWritten
     ensures { λ r. ⌜ WrittenAs longest set (now (out .entry)) (now (out .exit)) r ⌝ }
 {
     let answer = test_memory(set, meaning::LONGEST_WINDOW);
-    if let SetAnswer::Refused(refusal) = answer {
-        return SetWritten::Refused(refusal);
+    if let SetAnswer::Refused { number, at } = answer {
+        return SetWritten::Refused { number, at };
     }
     let size = 6 + 3 * set.count;
     if out.len() < size {
-        return SetWritten::Refused(Refusal {
+        return SetWritten::Refused {
             number: 9,
             at: size,
-        });
+        };
     }
     put_head(out, set.count);
     put_limits(out, set);

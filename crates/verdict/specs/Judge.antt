@@ -19,13 +19,13 @@ judgeRows longest set pattern = setRows longest set ++ outcomeRows pattern 0
 abbrev pub says : Judgement → Tested
 says Kept = passed
 says (Lost job limit) = passed
-says (Refused r) = refused (r .number) (r .at)
+says (Refused number at) = refused number at
 
 -- what an answer that isn't a refusal says of the pattern
 abbrev pub Verdict : LimitSet → List Bool → Judgement → Type 0
 Verdict s p Kept = KeptBy s p
 Verdict s p (Lost job limit) = LostAt s p job limit
-Verdict s p (Refused r) = Unit {0}
+Verdict s p (Refused number at) = Unit {0}
 
 pub record JudgedAs (longest : ℕ) (set pattern : List ℕ) (r : Judgement) : Type 0 where
   pub refusal : says r ≡ first (judgeRows longest set pattern)

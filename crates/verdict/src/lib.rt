@@ -4,13 +4,12 @@ ghost use Rattle.patterns.specs.Outcome.{outcomes};
 ghost use Rattle.meaning.specs.Longest.{longest};
 ghost use Rattle.meaning.specs.Sets.{SetAllowed};
 ghost use Rattle.verdict.specs.Judge.{Judged, JudgedAs};
-use layout::Refusal;
 use meaning::LimitSet;
 
 pub enum Judgement {
     Kept,
     Lost { job: u64, limit: usize },
-    Refused(Refusal),
+    Refused { number: u8, at: usize },
 }
 
 // One pass: the history is in one number, and only a miss is looked at.
@@ -43,15 +42,15 @@ pub fn judge(set: &[u8], pattern: &[u8]) -> Judgement
 {
     let read = sets::read_set(set);
     let answer = read.answer;
-    if let sets::SetAnswer::Refused(refusal) = answer {
-        return Judgement::Refused(refusal);
+    if let sets::SetAnswer::Refused { number, at } = answer {
+        return Judgement::Refused { number, at };
     }
     let bad = patterns::first_bad(pattern);
     if bad < pattern.len() {
-        return Judgement::Refused(Refusal {
+        return Judgement::Refused {
             number: 13,
             at: bad,
-        });
+        };
     }
     judge_outcomes(read.set, pattern)
 }

@@ -47,8 +47,7 @@ loop-less c = search needs
 
 loop-again : tie.Need-loop-again Inv-loop μ-loop
 loop-again c =
-    let l = c .before .before .before .before .loop in
-    (
+    let l = c .before .before .before .before .loop in (
       omega arith,
       below-more _ _ (l .inv .1) (sym (c .before .limit-may-miss .ensures) ∙ not-false _ (c .if1 .left)),
     )

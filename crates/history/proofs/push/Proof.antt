@@ -18,8 +18,7 @@ returns c =
     let h = c .args .history in
     let b = bit (c .args .hit) in
     let mask = c .args .mask in
-    let e : h * 2 % 65536 ≡ h * 2 = omega arith in
-    (
+    let e : h * 2 % 65536 ≡ h * 2 = omega arith in (
       and-le-r (bitOr (h * 2 % 65536) b) mask,
       λ m q.
           let g : mask ≡ 2 ^ m - 1 = omega arith in

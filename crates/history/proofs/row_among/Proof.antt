@@ -47,8 +47,7 @@ loop-less c = search needs
 loop-again : tie.Need-loop-again Inv-loop μ-loop
 loop-again c =
     let a = c .before .before .before .args in
-    let l = c .before .before .loop in
-    (
+    let l = c .before .before .loop in (
       omega arith,
       omega (arith, run-le (l .rest) (l .run)),
       l .inv .2 ∙ run-turn (a .n) (l .i) (l .rest) (a .x) (l .run) (c .before .loop-test .taken) (c .if1 .left),
