@@ -4,9 +4,10 @@ use mathlib.Core.Logic.{dite}
 use mathlib.Core.Bool.{Bool, false}
 use mathlib.Core.List.{List, [], _∷_, _++_}
 use Prim.Native.Nat.{ℕ, zero, suc, _+_, _-_, _^_, _≤_, _<_}
+use native.Mathlib.Nat.{pow-suc}
 use native.Mathlib.Decide.{decLt, decLe}
 use native.Mathlib.Omega.{arith}
-use lib.Pow.{pow-mono}
+use lib.Pow.{pow-mono, pow-pos}
 use lib.ListN.{length}
 use Rattle.patterns.specs.Number.{number, code}
 use Rattle.patterns.proofs.Numbers.{length-snoc}
@@ -18,7 +19,7 @@ use Rattle.meaning.proofs.Search.{kept-by-dec}
 use Rattle.meaning.proofs.Witness.{short-witness}
 use Rattle.history.specs.History.{historyOf}
 use Rattle.history.proofs.Histories.{history-lt}
-use Rattle.compare.specs.Splits.{outcomesOf, Splits}
+use Rattle.compare.specs.Splits.{outcomesOf, Splits, Scanned}
 use Rattle.compare.proofs.Outcomes.{outcomes-length, outcomes-number, history-short, outcomes-history-short}
 use Rattle.compare.proofs.Parting.{Parts, parts-split, split-between, parting}
 
@@ -33,11 +34,30 @@ High m (suc n) high = high + 2 ^ n ≡ 2 ^ m
 smaller-power : (a b : ℕ) → 2 ^ a < 2 ^ b → a < b
 smaller-power a b h = dite (decLt a b) (λ l. l) (λ n. absurd (omega (arith, pow-mono {i = b} {j = a} (omega arith))))
 
-module _ (a b : LimitSet) (m : ℕ) (oka : SetAllowed (suc m) a) (okb : SetAllowed (suc m) b) where
-  -- none of the histories from high on splits the sets
-  abbrev pub NoneFrom : ℕ → Type 0
-  NoneFrom high = (s : ℕ) → high ≤ s → s < 2 ^ m → Splits a b m s → ⊥
+-- the blocks one after the other
+pub block-ends : (m n low high : ℕ) → Low m n low → High m n high → (low ≤ high) × (high ≤ 2 ^ m)
+block-ends m zero low high e f = (omega arith, omega arith)
+block-ends m (suc n) low high e f = let p = pow-suc 2 n in (omega arith, omega arith)
 
+pub low-below : (m n low : ℕ) → Low m n low → low < 2 ^ m
+low-below m n low e = omega (arith, pow-pos n)
+
+pub next-block : (m n low : ℕ) → Low m n low → 0 < low → (suc n ≤ m) × (2 ^ m - low ≤ low) × Low m (suc n) (low - (2 ^ m - low))
+next-block m n low e h =
+    let l = smaller-power n m (omega arith) in
+    let p = pow-mono {i = suc n} {j = m} l in
+    let q = pow-suc 2 n in
+    (l, omega arith, omega arith)
+
+-- none of the histories from high on splits the sets
+abbrev pub NoneFrom : (a b : LimitSet) (m high : ℕ) → Type 0
+NoneFrom a b m high = (s : ℕ) → high ≤ s → s < 2 ^ m → Splits a b m s → ⊥
+
+pub none-from-scan : (a b : LimitSet) (m low high found : ℕ) → Scanned a b m low high found → (found < high → ⊥) → NoneFrom a b m high → NoneFrom a b m low
+none-from-scan a b m low high found scan all none s from below =
+    dite (decLt s high) (λ l. scan .before s from (omega (arith, scan .to))) (λ l. none s (omega arith) below)
+
+module _ (a b : LimitSet) (m : ℕ) (oka : SetAllowed (suc m) a) (okb : SetAllowed (suc m) b) where
   -- a history below high has at least as many outcomes from its oldest miss on
   at-least : (n high : ℕ) → High m n high → (q : List Bool) → (s : ℕ) → s + 2 ^ length q ≡ 2 ^ m + number q → s < high → n ≤ length q
   at-least zero high e q s f l = omega arith
@@ -48,15 +68,11 @@ module _ (a b : LimitSet) (m : ℕ) (oka : SetAllowed (suc m) a) (okb : SetAllow
     abbrev q : List Bool
     q = outcomesOf n (h - low)
 
-    high-le : (n : ℕ) → High m n high → high ≤ 2 ^ m
-    high-le zero e = omega arith
-    high-le (suc n) e = omega arith
-
     q-length : length q ≡ n
     q-length = outcomes-length n (h - low)
 
     q-number : number q ≡ h - low
-    q-number = outcomes-number n (h - low) (omega (arith, high-le n hi))
+    q-number = outcomes-number n (h - low) (omega (arith, block-ends m n low high lo hi .1))
 
     q-history : historyOf m q ≡ h
     q-history = omega (arith, history-short m q (omega (arith, q-length)), q-number, ap (λ z. 2 ^ z) q-length)
@@ -67,7 +83,7 @@ module _ (a b : LimitSet) (m : ℕ) (oka : SetAllowed (suc m) a) (okb : SetAllow
         ∙ ap (λ z. outcomesOf z (historyOf m q)) (sym q-length)
         ∙ outcomes-history-short m q (omega (arith, q-length))
 
-    module _ (none : NoneFrom high) (before : (s : ℕ) → low ≤ s → s < h → Splits a b m s → ⊥) where
+    module _ (none : NoneFrom a b m high) (before : (s : ℕ) → low ≤ s → s < h → Splits a b m s → ⊥) where
       -- a pattern that parts the sets is no earlier
       later-short : (r : List Bool) → length r ≤ m → Parts a b m oka okb r → code q ≤ code r
       later-short r short p =
@@ -97,7 +113,7 @@ module _ (a b : LimitSet) (m : ℕ) (oka : SetAllowed (suc m) a) (okb : SetAllow
           })
 
   -- where no history splits the sets, the first covers the second
-  pub none-covers : NoneFrom 0 → Covers a b
+  pub none-covers : NoneFrom a b m 0 → Covers a b
   none-covers none p ka = go (kept-by-dec b p)
     where
       no-witness : Between a b p → ⊥

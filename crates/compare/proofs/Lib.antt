@@ -2,3 +2,5 @@ pub mod Outcomes
 pub mod Back
 pub mod Parting
 pub mod FirstFound
+pub mod Packing
+pub mod OneResult

@@ -31,7 +31,7 @@ unfolding newest
 outcomes-length zero h = refl
 outcomes-length (suc n) h = unfold newest in ap length (outcomes-suc n h) ∙ length-snoc (outcomesOf n (h / 2)) _ ∙ ap suc (outcomes-length n (h / 2))
 
-odd-bit : (h : ℕ) → bit (eqb (h % 2) 1) ≡ h % 2
+pub odd-bit : (h : ℕ) → bit (eqb (h % 2) 1) ≡ h % 2
 odd-bit h =
     dite (ℕ-discrete (h % 2) 1) (λ e. rw (eq-eqb (h % 2) 1 e) (omega arith)) (λ e. rw (ne-eqb (h % 2) 1 e) (omega arith))
 
