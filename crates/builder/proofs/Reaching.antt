@@ -1,0 +1,26 @@
+-- Histories one shorter than the widest window are long enough: each limit stays allowed with its own window for the longest. Assumes nothing.
+use mathlib.Core.Path.{_≡_, ap, _∙_}
+use Prim.Native.Nat.{ℕ, zero, suc, _+_, _≤_, _<_}
+use native.Mathlib.Omega.{arith}
+use Rattle.meaning.specs.declared.Limit.{Limit}
+use Rattle.meaning.specs.declared.LimitSet.{LimitSet}
+use Rattle.meaning.specs.Limit.{Rule, AnyHit, RowHit, AnyMiss, RowMiss, RuleAllowed, Allowed, ruleOf, width}
+use Rattle.meaning.specs.Sets.{SetAllowed, limitAt}
+
+narrower : (w v : ℕ) (l : Rule) → RuleAllowed w l → width l ≤ v → RuleAllowed v l
+narrower w v (AnyHit x k) (a, b, c) h = (a, h, c)
+narrower w v (RowHit x k) (a, b, c) h = (a, h, c)
+narrower w v (AnyMiss x k) (a, b, c) h = (a, h, c)
+narrower w v (RowMiss x) a h = h
+
+-- every limit's window is no wider than v
+pub set-narrower : (w v : ℕ) (s : LimitSet) → SetAllowed w s → ((i : ℕ) → i < s .count → width (ruleOf (limitAt s i)) ≤ v) → SetAllowed v s
+set-narrower w v s a h = record {
+  some-limit = a .some-limit;
+  eight-places = a .eight-places;
+  each = λ i l. record {
+    kind-known = a .each i l .kind-known;
+    rule-allowed = narrower w v (ruleOf (limitAt s i)) (a .each i l .rule-allowed) (h i l);
+    k-unused = a .each i l .k-unused;
+  };
+}

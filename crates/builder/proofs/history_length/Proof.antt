@@ -1,0 +1,75 @@
+-- `builder::history_length`: the limits passed ask for no more than the length so far. Assumes nothing.
+use mathlib.Core.Path.{_≡_}
+use mathlib.Core.Logic.{⊎-elim}
+use Prim.Native.Nat.{ℕ, suc, _≤_, _<_, _-_}
+use native.Mathlib.Omega.{arith}
+use borrow.Author.Count.{below-more}
+use borrow.Author.Needs.{needs}
+use Rattle.meaning.specs.Longest.{longest}
+use Rattle.meaning.specs.Limit.{ruleOf, width}
+use Rattle.meaning.specs.Sets.{limitAt, ruleAt}
+use Rattle.meaning.proofs.Witness.{width-allowed}
+use Rattle.builder.proofs.Reaching.{set-narrower}
+use Rattle.builder.proofs.history_length.Statement.{statement}
+use Rattle.builder.proofs.history_length.Tie as tie
+
+abbrev Inv-loop : tie.InvT-loop
+Inv-loop set count length₀ i₀ length i =
+    (i ≤ count) × (length ≤ longest - 1) × ((j : ℕ) → j < i → width (ruleAt set j) ≤ suc length)
+
+abbrev μ-loop : tie.MeasureT-loop
+μ-loop set count length₀ i₀ length i = count - i
+
+loop-holds : tie.Need-loop-holds Inv-loop μ-loop
+loop-holds c = (omega arith, omega arith, λ j l. absurd (omega arith))
+
+mul-limit : tie.Need-mul-limit Inv-loop μ-loop
+mul-limit c = search needs
+
+element-copy-out-limit : tie.Need-element-copy-out-limit Inv-loop μ-loop
+element-copy-out-limit c = search needs
+
+reach-requires : tie.Need-reach-requires Inv-loop μ-loop
+reach-requires c κs = c .before .before .before .pre .each (c .before .before .loop .i) (c .before .loop-test .taken)
+
+add-i : tie.Need-add-i Inv-loop μ-loop
+add-i c = search needs
+
+loop-less : tie.Need-loop-less Inv-loop μ-loop
+loop-less c = search needs
+
+loop-again : tie.Need-loop-again Inv-loop μ-loop
+loop-again c =
+    let l = c .before .before .before .before .loop in
+    let s = c .before .before .before .before .before in
+    let t = c .before .before .before .loop-test .taken in
+    let r = c .before .reach .ensures in
+    let a = width-allowed longest (ruleAt (s .args .t1) (l .i)) (s .pre .each (l .i) t .rule-allowed) in
+    ⊎-elim
+    (λ w. (omega arith, omega arith, below-more _ _ (λ j h. let g = l .inv .2 j h in omega arith) (omega arith)))
+    (λ w. (omega arith, omega arith, below-more _ _ (λ j h. let g = l .inv .2 j h in omega arith) (omega arith)))
+    (c .if1 .came)
+
+returns : tie.Need-returns Inv-loop μ-loop
+returns c =
+    let l = c .before .loop in
+    let s = c .before .before in
+    record {
+      short = l .inv .1;
+      enough = set-narrower longest (suc (l .length)) (s .args .t1) (s .pre) (λ i h. l .inv .2 i (omega arith));
+    }
+
+pub history-length-spec : {M : Type 1} → statement M
+history-length-spec =
+    tie.close
+    (tie.spec
+    Inv-loop
+    μ-loop
+    loop-holds
+    mul-limit
+    element-copy-out-limit
+    reach-requires
+    add-i
+    loop-less
+    loop-again
+    returns)

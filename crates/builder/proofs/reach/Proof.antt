@@ -1,0 +1,42 @@
+-- `builder::reach`: one less than the window, by the kind. Assumes nothing.
+use mathlib.Core.Path.{_≡_, sym, ap, _∙_}
+use Prim.Native.Nat.{ℕ, zero, suc, _+_, _-_, _≤_}
+use native.Mathlib.Numerals.{add-one}
+use native.Mathlib.Omega.{arith}
+use borrow.Author.Needs.{needs}
+use Rattle.meaning.specs.declared.Limit.{Limit}
+use Rattle.meaning.specs.Longest.{longest}
+use Rattle.meaning.specs.Limit.{Allowed, RuleAllowed, ruleFrom, ruleOf, width}
+use Rattle.history.proofs.Blocking.{allowed-numbers}
+use Rattle.builder.proofs.reach.Statement.{statement}
+use Rattle.builder.proofs.reach.Tie as tie
+
+-- the window of a kind below 3 is k
+k-wide : (kind x k : ℕ) → kind ≤ 2 → width (ruleFrom kind x k) ≡ k
+k-wide zero x k h = omega arith
+k-wide (suc zero) x k h = omega arith
+k-wide (suc (suc zero)) x k h = omega arith
+k-wide (suc (suc (suc kind))) x k h = absurd (omega arith)
+
+cast-result : tie.Need-cast-result
+cast-result c = search needs
+
+returns : tie.Need-returns
+returns c =
+    let l = c .before .before .args .limit in
+    add-one (l .x) ∙ sym (ap (λ z. width (ruleFrom z (l .x) (l .k))) (c .before .if1 .taken))
+
+sub-result : tie.Need-sub-result
+sub-result c = let s = c .before .before in allowed-numbers longest (s .args .limit) (s .pre) (omega (arith, s .pre .kind-known)) .0
+
+cast-result-2 : tie.Need-cast-result-2
+cast-result-2 c = search needs
+
+returns-2 : tie.Need-returns-2
+returns-2 c =
+    let s = c .before .before in
+    let l = s .args .limit in
+    omega (arith, k-wide (l .kind) (l .x) (l .k) (omega (arith, s .pre .kind-known)), allowed-numbers longest l (s .pre) (omega (arith, s .pre .kind-known)) .0)
+
+pub reach-spec : {M : Type 1} → statement M
+reach-spec = tie.close (tie.spec cast-result returns sub-result cast-result-2 returns-2)

@@ -1,0 +1,70 @@
+-- "The builder tests 1 to 7, 8, 9, and else returns 7+4n." The table is the bytes of the canonical machine for exactly the patterns that the set keeps.
+use mathlib.Core.Path.{_≡_}
+use mathlib.Core.List.{List, [], _∷_, _++_}
+use Prim.Native.Nat.{ℕ, _≤_, _<_}
+use lib.Dec.{ltb}
+use lib.ListN.{length, getD, drop}
+use Rattle.layout.specs.Refusal.{Row, row, Tested, passed, refused, first}
+use Rattle.machines.specs.Machine.{Machine}
+use Rattle.machines.specs.Canonical.{Canonical}
+use Rattle.meaning.specs.Sets.{KeptBy}
+use Rattle.sets.specs.Bytes.{setOf}
+use Rattle.sets.specs.Rows.{setRows}
+use Rattle.table.specs.Bytes.{bytesOf, sizeOf}
+use Rattle.classes.specs.Area.{areaSize}
+use Rattle.builder.specs.declared.BuildAnswer.{BuildAnswer}
+use Rattle.builder.specs.declared.BuildAnswer.the-variants.{Built, Refused}
+
+-- "work area under 8,192 entries of 16 bits"
+abbrev pub areaRow : List ℕ → Row
+areaRow work = row 8 (ltb (length work) areaSize) 0
+
+-- "table buffer shorter than 7+4n", with 7+4n
+abbrev pub roomRow : List ℕ → (size : ℕ) → Row
+roomRow table size = row 9 (ltb (length table) size) size
+
+-- what is tested before the work area is used
+abbrev pub earlyRows : (longest : ℕ) → (set work : List ℕ) → List Row
+earlyRows longest set work = setRows longest set ++ areaRow work ∷ []
+
+abbrev pub buildRows : (longest : ℕ) → (set work table : List ℕ) → (size : ℕ) → List Row
+buildRows longest set work table size = earlyRows longest set work ++ roomRow table size ∷ []
+
+-- the number of each answer and what else is returned; the length that is returned without a refusal
+abbrev pub says : BuildAnswer → Tested
+says (Built n) = passed
+says (Refused number at) = refused number at
+
+abbrev pub lengthOf : BuildAnswer → ℕ
+lengthOf (Built n) = n
+lengthOf (Refused number at) = 0
+
+abbrev pub lengthWhen : Tested → ℕ → ℕ
+lengthWhen passed size = size
+lengthWhen (refused number at) size = 0
+
+-- "a builder that got past 8 leaves the first 8,192 work entries zero". "Work entries beyond those .. are never written."
+pub record Cleared (w w′ : List ℕ) : Type 0 where
+  pub length-stays : length w′ ≡ length w
+  pub zero : (k : ℕ) → k < areaSize → getD w′ k 0 ≡ 0
+  pub beyond : (k : ℕ) → areaSize ≤ k → getD w′ k 0 ≡ getD w k 0
+
+abbrev pub WorkAfter : Tested → (w w′ : List ℕ) → Type 0
+WorkAfter passed w w′ = Cleared w w′
+WorkAfter (refused number at) w w′ = w′ ≡ w
+
+-- the table and then the buffer as it was, or nothing written
+abbrev pub tableWhen : Tested → Machine → List ℕ → List ℕ
+tableWhen passed m table = bytesOf m ++ drop (sizeOf (m .states)) table
+tableWhen (refused number at) m table = table
+
+-- the result, by a machine that is the canonical one of the set where the set is accepted
+pub record BuiltWith (longest : ℕ) (set work work′ table table′ : List ℕ) (r : BuildAnswer) (m : Machine) : Type 0 where
+  pub canonical : first (setRows longest set) ≡ passed → Canonical m (KeptBy (setOf set))
+  pub answer : says r ≡ first (buildRows longest set work table (sizeOf (m .states)))
+  pub returned : lengthOf r ≡ lengthWhen (first (buildRows longest set work table (sizeOf (m .states)))) (sizeOf (m .states))
+  pub work-after : WorkAfter (first (earlyRows longest set work)) work work′
+  pub table-after : table′ ≡ tableWhen (first (buildRows longest set work table (sizeOf (m .states)))) m table
+
+abbrev pub BuiltAs : (longest : ℕ) → (set work work′ table table′ : List ℕ) → BuildAnswer → Type 0
+BuiltAs longest set work work′ table table′ r = (m : Machine) × BuiltWith longest set work work′ table table′ r m

@@ -1,0 +1,94 @@
+// The bytes of the table that a numbered work area holds.
+ghost use mathlib.Core.Path.{_≡_};
+ghost use mathlib.Core.Bool.{true, false, cond};
+ghost use mathlib.Core.List.{_++_};
+ghost use Prim.Native.Nat.{_+_, _-_, _*_, _≤_, _<_};
+ghost use lib.ListN.{length, take, drop};
+ghost use Rattle.classes.specs.Area.{classAt, mayAt};
+ghost use Rattle.numbering.specs.Numbered.{numberAt};
+ghost use Rattle.table.specs.Bytes.{pairBytes, rowBytes, bytesOf, sizeOf, noMiss};
+ghost use Rattle.builder.specs.Rows.{numberNext, tableMachine, headThen, Entries, Writable};
+use numbering::NUMBERS;
+use numbering::ORDER;
+
+// The mark of a history after which a miss may follow.
+const MAY_MISS: u16 = 1 << 15;
+
+// A row: where a miss leads and where a hit does, two bytes each, the higher first.
+fn put_row(out: &mut [u8], at: usize, miss: u16, hit: u16)
+    requires { ⌜ at + 4 ≤ length (now out) ⌝ }
+    ensures { λ _. ⌜ now (out .exit) ≡ take at (now (out .entry)) ++ pairBytes miss (pairBytes hit (drop (at + 4) (now (out .entry)))) ⌝ }
+{
+    out[at] = (miss / 256) as u8;
+    out[at + 1] = (miss % 256) as u8;
+    out[at + 2] = (hit / 256) as u8;
+    out[at + 3] = (hit % 256) as u8;
+}
+
+// The length field, the version and the number of states.
+fn put_head(out: &mut [u8], n: usize)
+    requires { ⌜ (7 ≤ length (now out)) × (n < 65536) ⌝ }
+    ensures { λ _. ⌜ now (out .exit) ≡ headThen n (drop 7 (now (out .entry))) ⌝ }
+{
+    let rest = 3 + 4 * n;
+    out[0] = (rest / 16777216) as u8;
+    out[1] = (rest / 65536 % 256) as u8;
+    out[2] = (rest / 256 % 256) as u8;
+    out[3] = (rest % 256) as u8;
+    out[4] = 1;
+    out[5] = (n / 256) as u8;
+    out[6] = (n % 256) as u8;
+}
+
+// The number and one of the class of a history.
+fn number_of(work: &[u16], n: usize, history: usize) -> u16
+    requires { ⌜ Entries n (now work) × (history < n) ⌝ }
+    ensures { λ r. ⌜ r ≡ numberAt (now (work .entry)) (classAt (now (work .entry)) history) ⌝ }
+{
+    let class = (work[history] % MAY_MISS) as usize;
+    work[NUMBERS + class]
+}
+
+// What the table holds for a miss after a history: where it leads, or that it isn't allowed.
+fn miss_entry(work: &[u16], n: usize, history: usize) -> u16
+    requires { ⌜ Entries n (now work) × (history < n) ⌝ }
+    requires { ⌜ (mayAt (now work) history ≡ true → 1 ≤ numberNext n (now work) history false) ⌝ }
+    ensures { λ r. ⌜ r ≡ cond (mayAt (now (work .entry)) history) (numberNext n (now (work .entry)) history false - 1) noMiss ⌝ }
+{
+    if work[history] < MAY_MISS {
+        return table::NO_MISS;
+    }
+    number_of(work, n, history * 2 % n) - 1
+}
+
+// Where a hit leads after a history.
+fn hit_entry(work: &[u16], n: usize, history: usize) -> u16
+    requires { ⌜ Entries n (now work) × (history < n) × (1 ≤ numberNext n (now work) history true) ⌝ }
+    ensures { λ r. ⌜ r ≡ numberNext n (now (work .entry)) history true - 1 ⌝ }
+{
+    number_of(work, n, (history * 2 + 1) % n) - 1
+}
+
+// The rows of all states, after the head.
+fn put_rows(work: &[u16], n: usize, count: usize, out: &mut [u8])
+    requires { ⌜ Writable n (now work) count × (sizeOf count ≤ length (now out)) ⌝ }
+    ensures { λ _. ⌜ now (out .exit) ≡ take 7 (now (out .entry)) ++ (rowBytes (tableMachine n (now (work .entry)) count) 0 count ++ drop (sizeOf count) (now (out .entry))) ⌝ }
+{
+    let mut i = 0;
+    while i < count {
+        let history = work[ORDER + i] as usize;
+        let miss = miss_entry(work, n, history);
+        let hit = hit_entry(work, n, history);
+        put_row(out, 7 + 4 * i, miss, hit);
+        i += 1;
+    }
+}
+
+// The whole table. What stands past it in the buffer stays.
+pub fn write_table(work: &[u16], n: usize, count: usize, out: &mut [u8])
+    requires { ⌜ Writable n (now work) count × (sizeOf count ≤ length (now out)) ⌝ }
+    ensures { λ _. ⌜ now (out .exit) ≡ bytesOf (tableMachine n (now (work .entry)) count) ++ drop (sizeOf count) (now (out .entry)) ⌝ }
+{
+    put_head(out, count);
+    put_rows(work, n, count, out);
+}

@@ -1,0 +1,9 @@
+pub mod Keeping
+pub mod Entries
+pub mod Signatures
+pub mod Seek
+pub mod Grow
+pub mod Placing
+pub mod Converge
+pub mod Told
+pub mod Stages

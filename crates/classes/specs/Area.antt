@@ -1,0 +1,31 @@
+-- "The builder's lent u16 slice holds history classes and merge marks": four regions, one entry a history in each.
+use mathlib.Core.Path.{_≡_}
+use mathlib.Core.Bool.{Bool}
+use mathlib.Core.List.{List}
+use Prim.Native.Nat.{ℕ, _-_, _*_, _%_, _^_, _≤_}
+use lib.Dec.{leb}
+use lib.ListN.{length, getD}
+use Rattle.meaning.specs.Longest.{longest}
+
+-- entries of one region: the histories at the longest window
+abbrev pub region : ℕ
+region = 2 ^ (longest - 1)
+
+-- "work area under 8,192 entries of 16 bits"
+abbrev pub areaSize : ℕ
+areaSize = 4 * region
+
+-- an entry of the first region is a class, with its high bit set where a miss may follow
+abbrev pub high : ℕ
+high = 32768
+
+abbrev pub classAt : List ℕ → ℕ → ℕ
+classAt w h = getD w h 0 % high
+
+abbrev pub mayAt : List ℕ → ℕ → Bool
+mayAt w h = leb high (getD w h 0)
+
+-- nothing past the four regions changes
+pub record Within (w w′ : List ℕ) : Type 0 where
+  pub length-stays : length w′ ≡ length w
+  pub beyond : (k : ℕ) → areaSize ≤ k → getD w′ k 0 ≡ getD w k 0

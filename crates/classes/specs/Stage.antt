@@ -1,0 +1,39 @@
+-- What the first region holds between the rounds: after k of them, the least history that can't be told apart in k jobs.
+use mathlib.Core.Path.{_≡_}
+use mathlib.Core.Bool.{Bool, true, false, cond}
+use mathlib.Core.List.{List}
+use Prim.Native.Nat.{ℕ, suc, _^_, _≤_, _<_}
+use lib.ListN.{getD}
+use Rattle.machines.specs.Same.{SameTo}
+use Rattle.meaning.specs.declared.LimitSet.{LimitSet}
+use Rattle.history.specs.MayMiss.{mayMiss}
+use Rattle.history.specs.Machine.{historyMachine}
+use Rattle.classes.specs.Area.{high, classAt, mayAt, Within}
+use Rattle.classes.specs.Classed.{Classed}
+use Rattle.classes.specs.Chain.{newClass}
+
+pub record Stage (s : LimitSet) (m k : ℕ) (w : List ℕ) : Type 0 where
+  pub may : (h : ℕ) → h < 2 ^ m → mayAt w h ≡ mayMiss s h
+  pub no-greater : (h : ℕ) → h < 2 ^ m → classAt w h ≤ h
+  pub same : (h : ℕ) → h < 2 ^ m → SameTo (historyMachine s m) k (classAt w h) h
+  pub least : (g h : ℕ) → g < 2 ^ m → h < 2 ^ m → SameTo (historyMachine s m) k g h → classAt w h ≤ g
+
+-- before the first round all are in class 0
+abbrev pub firstEntry : LimitSet → ℕ → ℕ
+firstEntry s h = cond (mayMiss s h) high 0
+
+pub record Started (s : LimitSet) (n : ℕ) (w w′ : List ℕ) : Type 0 where
+  pub within : Within w w′
+  pub entries : (h : ℕ) → h < n → getD w′ h 0 ≡ firstEntry s h
+
+-- the classes of a round become those of the last one
+pub record Renewed (n : ℕ) (w w′ : List ℕ) : Type 0 where
+  pub within : Within w w′
+  pub classes : (h : ℕ) → h < n → classAt w′ h ≡ newClass w h
+  pub may : (h : ℕ) → h < n → mayAt w′ h ≡ mayAt w h
+
+-- one more round, told by `changed` whether it parted any two histories: if not, no later one does
+pub record Refined (n : ℕ) (w w′ : List ℕ) (changed : Bool) : Type 0 where
+  pub within : Within w w′
+  pub further : changed ≡ true → (s : LimitSet) (m k : ℕ) → n ≡ 2 ^ m → Stage s m k w → Stage s m (suc k) w′
+  pub settled : changed ≡ false → (s : LimitSet) (m k : ℕ) → n ≡ 2 ^ m → Stage s m k w → Classed s m w′

@@ -1,0 +1,186 @@
+// Which histories can't be told apart: for each the least one that allows the same outcomes for ever after,
+// found by rounds of refinement in a lent work area.
+ghost use mathlib.Core.Path.{_≡_};
+ghost use mathlib.Core.Bool.{true, false};
+ghost use Prim.Native.Nat.{ℕ, _+_, _-_, _*_, _^_, _≤_, _<_};
+ghost use lib.ListN.{length, getD};
+ghost use Rattle.meaning.specs.Longest.{longest};
+ghost use Rattle.meaning.specs.Sets.{SetAllowed};
+ghost use Rattle.classes.specs.Area.{region, areaSize, high, classAt, Within};
+ghost use Rattle.classes.specs.Classed.{Classed};
+ghost use Rattle.classes.specs.Signature.{sig, bucket};
+ghost use Rattle.classes.specs.Chain.{newClass, Room, Placed, Chained, Found, Kept, Rounded};
+ghost use Rattle.classes.specs.Stage.{firstEntry, Started, Renewed, Refined};
+use meaning::LimitSet;
+
+// Entries of one region of the work area: the number of histories at the longest window.
+pub const REGION: usize = 1 << (meaning::LONGEST_WINDOW - 1);
+
+// The first region has the classes of the last round, with this bit set where a miss may follow.
+const MAY_MISS: u16 = 32768;
+
+// The second has the classes of this round, the third the heads of the buckets, the fourth the links. A head or a
+// link is 0, or one more than a history.
+const CLASSES: usize = REGION;
+
+const HEADS: usize = 2 * REGION;
+
+const LINKS: usize = 3 * REGION;
+
+fn entry(work: &[u16], k: usize) -> usize
+    requires { ⌜ k < length (now work) ⌝ }
+    ensures { λ r. ⌜ r ≡ getD (now (work .entry)) k 0 ⌝ }
+{
+    work[k] as usize
+}
+
+fn class_of(work: &[u16], h: usize) -> usize
+    requires { ⌜ h < length (now work) ⌝ }
+    ensures { λ r. ⌜ (r ≡ classAt (now (work .entry)) h) × (r < high) ⌝ }
+{
+    (work[h] % MAY_MISS) as usize
+}
+
+// What the round tells h apart by.
+fn signature(work: &[u16], n: usize, h: usize) -> usize
+    requires { ⌜ Room n (now work) × (h < n) ⌝ }
+    ensures { λ r. ⌜ (r ≡ sig (now (work .entry)) n h) × (r < high * (high + 1)) ⌝ }
+{
+    let miss = class_of(work, (h * 2) & (n - 1));
+    let hit = class_of(work, (h * 2 + 1) & (n - 1));
+    if work[h] < MAY_MISS {
+        return hit;
+    }
+    (miss + 1) * MAY_MISS as usize + hit
+}
+
+fn bucket_of(n: usize, s: usize) -> usize
+    requires { ⌜ (1 ≤ n) × (s < high * (high + 1)) ⌝ }
+    ensures { λ r. ⌜ (r ≡ bucket n s) × (r < n) ⌝ }
+{
+    (s * 40503 / 65536) & (n - 1)
+}
+
+// The class below h of signature s, by way of its bucket b, or h where there is none.
+fn find(work: &[u16], n: usize, h: usize, s: usize, b: usize) -> usize
+    requires { ⌜ Room n (now work) × Chained (now work) n h × (h ≤ n) × (b < n) × (b ≡ bucket n s) ⌝ }
+    ensures { λ r. ⌜ Found (now (work .entry)) n h s r ⌝ }
+{
+    let mut next = entry(work, HEADS + b);
+    while next != 0 {
+        let g = next - 1;
+        if signature(work, n, g) == s {
+            return g;
+        }
+        next = entry(work, LINKS + g);
+    }
+    h
+}
+
+// Gives h its class. A class of its own goes to the front of its bucket.
+fn place(work: &mut [u16], n: usize, h: usize)
+    requires { ⌜ Placed (now work) n h × (h < n) ⌝ }
+    ensures { λ _. ⌜ Placed (now (work .exit)) n (h + 1) × Kept (now (work .entry)) (now (work .exit)) ⌝ }
+{
+    let s = signature(work, n, h);
+    let b = bucket_of(n, s);
+    let class = find(work, n, h, s, b);
+    work[CLASSES + h] = class as u16;
+    if class < h {
+        return;
+    }
+    let head = work[HEADS + b];
+    work[LINKS + h] = head;
+    work[HEADS + b] = (h + 1) as u16;
+}
+
+fn clear_heads(work: &mut [u16], n: usize)
+    requires { ⌜ Room n (now work) ⌝ }
+    ensures { λ _. ⌜ Placed (now (work .exit)) n 0 × Kept (now (work .entry)) (now (work .exit)) ⌝ }
+{
+    for b in 0..n {
+        work[HEADS + b] = 0;
+    }
+}
+
+// One round: of each history the least one of the same signature.
+fn round(work: &mut [u16], n: usize)
+    requires { ⌜ Room n (now work) ⌝ }
+    ensures { λ _. ⌜ Rounded n (now (work .entry)) (now (work .exit)) ⌝ }
+{
+    clear_heads(work, n);
+    for h in 0..n {
+        place(work, n, h);
+    }
+}
+
+// Whether the round changed a class.
+fn changed(work: &[u16], n: usize) -> bool
+    requires { ⌜ Room n (now work) ⌝ }
+    ensures { λ r. ⌜ (r ≡ false → (h : ℕ) → h < n → newClass (now (work .entry)) h ≡ classAt (now (work .entry)) h) ⌝ }
+{
+    for h in 0..n {
+        if entry(work, CLASSES + h) != class_of(work, h) {
+            return true;
+        }
+    }
+    false
+}
+
+// The classes of this round become those of the last.
+fn renew(work: &mut [u16], n: usize)
+    requires { ⌜ Room n (now work) × ((h : ℕ) → h < n → newClass (now work) h < high) ⌝ }
+    ensures { λ _. ⌜ Renewed n (now (work .entry)) (now (work .exit)) ⌝ }
+{
+    for h in 0..n {
+        let old = work[h];
+        let class = work[CLASSES + h];
+        work[h] = old / MAY_MISS * MAY_MISS + class;
+    }
+}
+
+// One round more, unless it changes nothing: then no later round would.
+fn refine(work: &mut [u16], n: usize) -> bool
+    requires { ⌜ Room n (now work) ⌝ }
+    ensures { λ r. ⌜ Refined n (now (work .entry)) (now (work .exit)) r ⌝ }
+{
+    round(work, n);
+    if !changed(work, n) {
+        return false;
+    }
+    renew(work, n);
+    true
+}
+
+// The entry of a history before the first round.
+fn first_entry(set: LimitSet, h: usize) -> u16
+    requires { ⌜ SetAllowed longest set × (h < region) ⌝ }
+    ensures { λ r. ⌜ r ≡ firstEntry set h ⌝ }
+{
+    if history::may_miss(set, h as u16) {
+        return MAY_MISS;
+    }
+    0
+}
+
+fn start(set: LimitSet, n: usize, work: &mut [u16])
+    requires { ⌜ SetAllowed longest set × Room n (now work) ⌝ }
+    ensures { λ _. ⌜ Started set n (now (work .entry)) (now (work .exit)) ⌝ }
+{
+    for h in 0..n {
+        work[h] = first_entry(set, h);
+    }
+}
+
+// The classes of the n histories of m outcomes.
+pub fn classes(set: LimitSet, m: usize, n: usize, work: &mut [u16])
+    requires { ⌜ (n ≡ 2 ^ m) × (m ≤ longest - 1) × SetAllowed longest set × (areaSize ≤ length (now work)) ⌝ }
+    ensures { λ _. ⌜ Classed set m (now (work .exit)) × Within (now (work .entry)) (now (work .exit)) ⌝ }
+{
+    start(set, n, work);
+    for i in 0..m {
+        if !refine(work, n) {
+            return;
+        }
+    }
+}

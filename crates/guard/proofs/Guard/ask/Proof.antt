@@ -1,0 +1,48 @@
+-- `Guard::ask`: by what looking at the guard's state gives. Assumes nothing.
+use mathlib.Core.Path.{sym, ap, _∙_}
+use mathlib.Core.Bool.{false}
+use borrow.Author.Needs.{needs}
+use Rattle.table.specs.Bytes.{machineOf}
+use Rattle.table.specs.Check.{moveBy}
+use Rattle.table.proofs.Answers.{looked-moves, looked-refused, moves-are-next}
+use Rattle.guard.specs.declared.Asked.{Asked}
+use Rattle.guard.specs.Guard.{answerBy, askedWhen}
+use Rattle.guard.proofs.Guard.ask.Statement.{statement}
+use Rattle.guard.proofs.Guard.ask.Tie as tie
+
+look-requires : tie.Need-look-requires
+look-requires c κs = search needs
+
+enum-known-looked : tie.Need-enum-known-looked
+enum-known-looked c = search needs
+
+enum-known-looked-2 : tie.Need-enum-known-looked-2
+enum-known-looked-2 c = search needs
+
+answer-requires : tie.Need-answer-requires
+answer-requires c κs = search needs
+
+returns : tie.Need-returns
+returns c =
+    let a = c .before .before .before .before .before .args in
+    let r = looked-refused (a .table .now) (a .self .state) (c .before .before .before .look .ensures) (c .before .looked .given .1) in
+    sym (ap (λ t. askedWhen t (machineOf (a .table .now)) (a .self)) r)
+
+returns-2 : tie.Need-returns-2
+returns-2 c =
+    let a = c .before .before .before .before .before .before .args in
+    let b = a .table .now in
+    let (p, e) = looked-moves b (a .self .state) (c .before .before .before .before .look .ensures) (c .before .before .looked2 .given .1) in
+    let f = c .answer .ensures ∙ ap (λ m. answerBy (moveBy m false) (a .self)) e ∙ ap (λ n. answerBy n (a .self)) (moves-are-next b (a .self .state) false) in
+    ap {B = Asked} (λ x. record { answer = x; guard = a .self }) f ∙ sym (ap (λ t. askedWhen t (machineOf b) (a .self)) p)
+
+pub ask-spec : {M : Type 1} → statement M
+ask-spec =
+    tie.close
+    (tie.spec
+    look-requires
+    enum-known-looked
+    enum-known-looked-2
+    answer-requires
+    returns
+    returns-2)

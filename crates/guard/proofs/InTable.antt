@@ -1,0 +1,83 @@
+-- On a table that passes the check a guard never leaves the table, so ask and tell refuse nothing there but an outcome that is neither 0 nor 1. Assumes nothing.
+use mathlib.Core.Path.{_≡_, refl, sym, ap, _∙_, subst}
+use mathlib.Core.Logic.{dite}
+use mathlib.Core.Option.{Option, none, some}
+use mathlib.Core.Bool.{Bool, true, false, cond}
+use mathlib.Core.List.{List, [], _∷_}
+use Prim.Native.Nat.{ℕ, _≤_, _<_}
+use native.Mathlib.Decide.{decLt}
+use native.Mathlib.Omega.{arith}
+use borrow.Author.Tests.{lt-ltb, le-ltb}
+use lib.Dec.{ltb}
+use Rattle.table.specs.Shared.{row, passed, first, outcome, Machine, WellMade}
+use Rattle.table.specs.Bytes.{stateCount, machineOf}
+use Rattle.table.specs.Rows.{tableRows, lookRows}
+use Rattle.table.proofs.Shared.{first-here, first-skip}
+use Rattle.table.proofs.Turns.{passed-before}
+use Rattle.table.proofs.Checked.{checked-looks, checked-well-made}
+use Rattle.guard.specs.declared.Guard.{Guard}
+use Rattle.guard.specs.declared.Told.{Told}
+use Rattle.guard.specs.declared.TellAnswer.the-variants as tell
+use Rattle.guard.specs.Guard.{fresh, answerTo, askedWhen, askedOf, moved, after, tellRows, toldWhen, toldOf}
+use Rattle.guard.specs.Told.{afterAll, toldAll, heard, ByWalk}
+use Rattle.guard.proofs.Answered.{ask-by-walk}
+
+module _ (m : Machine) (w : WellMade m) where
+  pub state-below : (g : Guard) (o : Bool) → g .state < m .states → after m g o .state < m .states
+  state-below g o h = go (g .lost) (m .next (g .state) o) refl
+    where
+      go : (l : Bool) (r : Option ℕ) → m .next (g .state) o ≡ r → cond l g (moved r g) .state < m .states
+      go true r e = h
+      go false none e = h
+      go false (some t) e = w .next-below (g .state) t o h e
+
+  pub states-below : (g : Guard) (p : List Bool) → g .state < m .states → afterAll m g p .state < m .states
+  states-below g [] h = h
+  states-below g (o ∷ p) h = states-below (after m g o) p (state-below g o h)
+
+module _ (b : List ℕ) (e : first (tableRows b) ≡ passed) where
+  abbrev m : Machine
+  m = machineOf b
+
+  module _ (g : Guard) (h : g .state < stateCount b) where
+    pub asked-in-table : askedOf b g ≡ record { answer = answerTo m g; guard = g }
+    asked-in-table = ap (λ t. askedWhen t m g) (checked-looks b e (g .state) h)
+
+    left-13 : (byte : ℕ) → first (tellRows b g byte) ≡ first (row 13 (ltb 1 byte) 0 ∷ [])
+    left-13 byte = passed-before (lookRows b (g .state)) (row 13 (ltb 1 byte) 0 ∷ []) (checked-looks b e (g .state) h)
+
+    pub told-in-table : (byte : ℕ) → byte ≤ 1 → toldOf b g byte ≡ record { answer = tell.Told; guard = after m g (outcome byte) }
+    unfolding first
+    told-in-table byte l = ap (λ t. toldWhen t m g (outcome byte)) (left-13 byte ∙ first-skip 13 0 (ltb 1 byte) [] (le-ltb 1 byte l))
+
+    pub refused-in-table : (byte : ℕ) → 1 < byte → toldOf b g byte ≡ record { answer = tell.Refused 13 0; guard = g }
+    refused-in-table byte l = ap (λ t. toldWhen t m g (outcome byte)) (left-13 byte ∙ first-here 13 0 (ltb 1 byte) [] (lt-ltb 1 byte l))
+
+  told-heard : (g : Guard) (bytes : List ℕ) → g .state < stateCount b → toldAll b g bytes ≡ afterAll m g (heard bytes)
+  told-heard g [] h = refl
+  told-heard g (byte ∷ bytes) h =
+      dite (decLt 1 byte)
+      (λ l. ap (λ t. toldAll b (t .guard) bytes) (refused-in-table g h byte l) ∙ told-heard g bytes h ∙ sym (rw (lt-ltb 1 byte l)))
+      (λ l.
+      let k : byte ≤ 1 = omega arith in
+      let o = outcome byte in
+      ap (λ t. toldAll b (t .guard) bytes) (told-in-table g h byte k)
+      ∙ told-heard (after m g o) bytes (state-below m (checked-well-made b e) g o h)
+      ∙ sym (rw (le-ltb 1 byte k)))
+
+  some-state : 0 < stateCount b
+  some-state = checked-well-made b e .start-below
+
+  pub told-all : (bytes : List ℕ) → toldAll b fresh bytes ≡ afterAll m fresh (heard bytes)
+  told-all bytes = told-heard fresh bytes some-state
+
+  pub never-leaves : (p : List Bool) → afterAll m fresh p .state < stateCount b
+  never-leaves p = states-below m (checked-well-made b e) fresh p some-state
+
+  -- a guard started on a checked table, told these bytes and asked
+  pub answers-by-walk : (bytes : List ℕ) → ByWalk m 0 (heard bytes) (askedOf b (toldAll b fresh bytes) .answer)
+  answers-by-walk bytes =
+      let g = afterAll m fresh (heard bytes) in
+      subst (ByWalk m 0 (heard bytes))
+      (sym (ap (λ z. askedOf b z .answer) (told-all bytes) ∙ ap (λ z. z .answer) (asked-in-table g (never-leaves (heard bytes)))))
+      (ask-by-walk m 0 (heard bytes))

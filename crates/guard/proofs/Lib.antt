@@ -1,0 +1,7 @@
+pub mod Walked
+pub mod Answered
+pub mod InTable
+pub mod RowCalls
+pub mod RowLaws
+pub mod OneResult
+pub mod Worked

@@ -1,0 +1,29 @@
+-- A guard on the table of AnyHit(1,2), asked after these bytes were told: panic after a miss, lost after two, and a byte that is no outcome changes nothing. By computing. Assumes nothing.
+use mathlib.Core.Path.{_≡_, refl}
+use mathlib.Core.Bool.{true}
+use mathlib.Core.List.{List, [], _∷_}
+use Prim.Native.Nat.{ℕ}
+use Rattle.table.specs.Shared.{first}
+use Rattle.table.proofs.Worked.{any-hit-1-2}
+use Rattle.guard.specs.declared.Guard.{Guard}
+use Rattle.guard.specs.declared.AskAnswer.{AskAnswer}
+use Rattle.guard.specs.declared.AskAnswer.the-variants as ask
+use Rattle.guard.specs.Guard.{fresh, askedOf}
+use Rattle.guard.specs.Told.{toldAll}
+
+abbrev told : List ℕ → Guard
+told bytes = toldAll any-hit-1-2 fresh bytes
+
+abbrev asked : List ℕ → AskAnswer
+asked bytes = askedOf any-hit-1-2 (told bytes) .answer
+
+pub any-hit-1-2-answers :
+    (asked [] ≡ ask.Normal)
+    × (asked (0 ∷ []) ≡ ask.Panic)
+    × (asked (0 ∷ 1 ∷ []) ≡ ask.Normal)
+    × (asked (0 ∷ 2 ∷ []) ≡ ask.Panic)
+    × (asked (0 ∷ 0 ∷ []) ≡ ask.Lost)
+    × (asked (0 ∷ 0 ∷ 1 ∷ []) ≡ ask.Lost)
+    × (told (0 ∷ 0 ∷ 1 ∷ []) ≡ record { state = 1; lost = true })
+unfolding first
+any-hit-1-2-answers = (refl, refl, refl, refl, refl, refl, refl)

@@ -1,0 +1,46 @@
+-- A guard told outcomes one after the other: "its state after each tell is named by the outcomes told".
+use mathlib.Core.Path.{_≡_}
+use mathlib.Core.Logic.{_↔_}
+use mathlib.Core.Option.{none, some}
+use mathlib.Core.Bool.{Bool, false, cond}
+use mathlib.Core.List.{List, [], _∷_, _++_}
+use Prim.Native.Nat.{ℕ}
+use lib.Dec.{ltb}
+use Rattle.table.specs.Shared.{outcome, Machine, walk, Can}
+use Rattle.guard.specs.declared.Guard.{Guard}
+use Rattle.guard.specs.declared.AskAnswer.{AskAnswer}
+use Rattle.guard.specs.declared.AskAnswer.the-variants as ask
+use Rattle.guard.specs.Guard.{after, toldOf}
+
+-- a guard in state s, not lost
+abbrev pub inState : ℕ → Guard
+inState s = record { state = s; lost = false }
+
+-- the guard after outcomes, oldest first
+abbrev pub afterAll : Machine → Guard → List Bool → Guard
+afterAll m g [] = g
+afterAll m g (o ∷ p) = afterAll m (after m g o) p
+
+-- the guard after tells of these bytes on table b
+abbrev pub toldAll : List ℕ → Guard → List ℕ → Guard
+toldAll b g [] = g
+toldAll b g (byte ∷ bytes) = toldAll b (toldOf b g byte .guard) bytes
+
+-- the outcomes told: "A refused tell isn't an outcome told."
+abbrev pub heard : List ℕ → List Bool
+heard [] = []
+heard (byte ∷ bytes) = cond (ltb 1 byte) (heard bytes) (outcome byte ∷ heard bytes)
+
+-- q is the longest beginning of p that can be walked from s, and leads to t: one outcome more can't be walked
+pub record LongestWalk (m : Machine) (s : ℕ) (p q : List Bool) (t : ℕ) : Type 0 where
+  pub next : Bool
+  pub rest : List Bool
+  pub begins : p ≡ q ++ (next ∷ rest)
+  pub leads : walk m s q ≡ some t
+  pub stops : walk m s (q ++ next ∷ []) ≡ none
+
+-- what an answer says of outcomes p told from state s: "Panic. The outcomes so far are kept, and with one more miss they aren't."
+pub record ByWalk (m : Machine) (s : ℕ) (p : List Bool) (a : AskAnswer) : Type 0 where
+  pub lost : (a ≡ ask.Lost) ↔ (Can m s p → ⊥)
+  pub panic : (a ≡ ask.Panic) ↔ (Can m s p × (Can m s (p ++ false ∷ []) → ⊥))
+  pub normal : (a ≡ ask.Normal) ↔ (Can m s p × Can m s (p ++ false ∷ []))

@@ -1,0 +1,55 @@
+-- "Table: after the version, two bytes n (1 to 2,048), then n times two big-endian pairs: next state on a miss, next state on a hit. FF FF for a miss says that a miss isn't allowed here. A hit is always allowed. The length field is 3+4n, the whole 7+4n."
+use mathlib.Core.Option.{Option, none, some}
+use mathlib.Core.Bool.{Bool, true, false, cond}
+use mathlib.Core.List.{List, [], _∷_}
+use Prim.Native.Nat.{ℕ, zero, suc, _+_, _*_, _/_, _%_}
+use lib.Dec.{eqb}
+use Rattle.layout.specs.Bytes.{byteAt}
+use Rattle.machines.specs.Machine.{Machine}
+
+abbrev pub pairAt : List ℕ → ℕ → ℕ
+pairAt b i = byteAt b i * 256 + byteAt b (i + 1)
+
+abbrev pub stateCount : List ℕ → ℕ
+stateCount b = pairAt b 5
+
+-- the entries of state s
+abbrev pub missEntry : List ℕ → ℕ → ℕ
+missEntry b s = pairAt b (7 + 4 * s)
+
+abbrev pub hitEntry : List ℕ → ℕ → ℕ
+hitEntry b s = pairAt b (9 + 4 * s)
+
+-- FF FF
+abbrev pub noMiss : ℕ
+noMiss = 65535
+
+abbrev pub nextIn : List ℕ → ℕ → Bool → Option ℕ
+nextIn b s true = some (hitEntry b s)
+nextIn b s false = cond (eqb (missEntry b s) noMiss) none (some (missEntry b s))
+
+-- the machine that a table's bytes write; "State 0 is the start."
+abbrev pub machineOf : List ℕ → Machine
+machineOf b = record { states = stateCount b; start = 0; next = nextIn b }
+
+-- and the bytes of a machine
+abbrev pub entryOf : Option ℕ → ℕ
+entryOf none = noMiss
+entryOf (some t) = t
+
+abbrev pub pairBytes : ℕ → List ℕ → List ℕ
+pairBytes x rest = x / 256 ∷ x % 256 ∷ rest
+
+-- the rows of the n states from s on
+unfoldable pub rowBytes : Machine → ℕ → ℕ → List ℕ
+rowBytes m s zero = []
+rowBytes m s (suc n) = pairBytes (entryOf (m .next s false)) (pairBytes (entryOf (m .next s true)) (rowBytes m (suc s) n))
+
+abbrev pub sizeOf : ℕ → ℕ
+sizeOf n = 7 + 4 * n
+
+abbrev pub bytesOf : Machine → List ℕ
+bytesOf m =
+    let n = m .states in
+    (3 + 4 * n) / 16777216 ∷ (3 + 4 * n) / 65536 % 256 ∷ (3 + 4 * n) / 256 % 256 ∷ (3 + 4 * n) % 256
+    ∷ 1 ∷ pairBytes n (rowBytes m 0 n)

@@ -1,0 +1,42 @@
+-- Refusals 10 to 12, as rows in the order tested.
+use mathlib.Core.Bool.{not, _||_, _&&_}
+use mathlib.Core.List.{List, [], _∷_, _++_}
+use Prim.Native.Nat.{ℕ, zero, suc, _+_, _-_, _*_}
+use lib.Dec.{eqb, ltb, leb}
+use lib.ListN.{length}
+use Rattle.layout.specs.Bytes.{lengthField, version}
+use Rattle.layout.specs.Refusal.{Row, row}
+use Rattle.table.specs.Bytes.{stateCount, missEntry, hitEntry, noMiss}
+
+-- "n is 0 or above 2,048"
+abbrev pub mostStates : ℕ
+mostStates = 2048
+
+-- 10, 11, and the counts in 12
+abbrev pub countRows : List ℕ → List Row
+countRows b =
+    row 10 (ltb (length b) 7 || not (eqb (lengthField b) (length b - 4))) 0
+    ∷ row 11 (not (eqb (version b) 1)) 0
+    ∷ row 12 (eqb (stateCount b) 0 || ltb mostStates (stateCount b)) 0
+    ∷ row 12 (not (eqb (lengthField b) (3 + 4 * stateCount b))) 0
+    ∷ []
+
+-- "a next state is n or more (FF FF on a miss excepted)", in the entry of state s
+abbrev pub entryRows : List ℕ → ℕ → List Row
+entryRows b s =
+    row 12 (leb (stateCount b) (missEntry b s) && not (eqb (missEntry b s) noMiss)) 0
+    ∷ row 12 (leb (stateCount b) (hitEntry b s)) 0
+    ∷ []
+
+-- in the entries of the n states from s on
+unfoldable pub entriesRows : List ℕ → ℕ → ℕ → List Row
+entriesRows b s zero = []
+entriesRows b s (suc n) = entryRows b s ++ entriesRows b (suc s) n
+
+-- the table check, and what starting a guard tests
+abbrev pub tableRows : List ℕ → List Row
+tableRows b = countRows b ++ entriesRows b 0 (stateCount b)
+
+-- what ask and tell test: "10, 11, the counts in 12, and the entry of the guard's state", after "a guard's state is n or more"
+abbrev pub lookRows : List ℕ → ℕ → List Row
+lookRows b s = countRows b ++ (row 12 (leb (stateCount b) s) 0 ∷ entryRows b s)

@@ -1,0 +1,13 @@
+-- The machines that a table's bytes can write: "State 0 is the start", "n (1 to 2,048)", and "a hit is always allowed".
+use mathlib.Core.Path.{_≡_}
+use mathlib.Core.Option.{some}
+use mathlib.Core.Bool.{true}
+use Prim.Native.Nat.{ℕ, _≤_, _<_}
+use Rattle.machines.specs.Machine.{Machine, WellMade}
+use Rattle.table.specs.Rows.{mostStates}
+
+pub record Writable (m : Machine) : Type 0 where
+  pub well-made : WellMade m
+  pub starts-at-0 : m .start ≡ 0
+  pub most : m .states ≤ mostStates
+  pub hit-allowed : (s : ℕ) → s < m .states → (t : ℕ) × (m .next s true ≡ some t)

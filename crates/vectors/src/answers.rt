@@ -1,0 +1,62 @@
+// What answers are made of, printed to standard output: text, numbers, bytes, outcomes, a refusal.
+// Bytes and outcomes are the first so many of a slice; where there are none, `-` is printed.
+// No contract can say what is written, so these are only proved safe, and ending.
+use libc::STDOUT_FILENO;
+
+pub fn print(text: &[u8]) {
+    io::write_all(STDOUT_FILENO, text);
+}
+
+pub fn print_line_end() {
+    print(b"\n");
+}
+
+pub fn print_number(n: u64) {
+    io::print_decimal(STDOUT_FILENO, n);
+}
+
+fn digit(value: u8) -> u8 {
+    let low = value % 16;
+    if low < 10 {
+        return b'0' + low;
+    }
+    b'A' + (low - 10)
+}
+
+fn print_value(value: u8, pairs: bool) {
+    if pairs {
+        print(&[digit(value / 16)]);
+    }
+    print(&[digit(value)]);
+}
+
+fn print_values(values: &[u8], count: usize, pairs: bool) {
+    if count == 0 {
+        print(b"-");
+        return;
+    }
+    let mut i = 0;
+    while i < count {
+        if values.len() <= i {
+            return;
+        }
+        print_value(values[i], pairs);
+        i += 1;
+    }
+}
+
+pub fn print_bytes(bytes: &[u8], count: usize) {
+    print_values(bytes, count, true);
+}
+
+pub fn print_outcomes(outcomes: &[u8], count: usize) {
+    print_values(outcomes, count, false);
+}
+
+// As `refused 3 at 0`.
+pub fn print_refusal(number: u8, at: usize) {
+    print(b"refused ");
+    print_number(number as u64);
+    print(b" at ");
+    print_number(at as u64);
+}
