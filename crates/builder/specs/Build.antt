@@ -58,9 +58,9 @@ abbrev pub tableWhen : Tested → Machine → List ℕ → List ℕ
 tableWhen passed m table = bytesOf m ++ drop (sizeOf (m .states)) table
 tableWhen (refused number at) m table = table
 
--- the result, by a machine that is the canonical one of the set where the set is accepted
+-- the result, by a machine that is the canonical one of the set where the builder gets past 8
 pub record BuiltWith (longest : ℕ) (set work work′ table table′ : List ℕ) (r : BuildAnswer) (m : Machine) : Type 0 where
-  pub canonical : first (setRows longest set) ≡ passed → Canonical m (KeptBy (setOf set))
+  pub canonical : first (earlyRows longest set work) ≡ passed → Canonical m (KeptBy (setOf set))
   pub answer : says r ≡ first (buildRows longest set work table (sizeOf (m .states)))
   pub returned : lengthOf r ≡ lengthWhen (first (buildRows longest set work table (sizeOf (m .states)))) (sizeOf (m .states))
   pub work-after : WorkAfter (first (earlyRows longest set work)) work work′

@@ -1,65 +1,66 @@
+-- `builder::build_table`: each way out by its law. Assumes nothing.
 use borrow.Author.Needs.{needs}
+use Rattle.builder.specs.Rows.{tableMachine}
+use Rattle.builder.proofs.Answers.{clear-within, short-table, whole-table}
 use Rattle.builder.proofs.build_table.Statement.{statement}
 use Rattle.builder.proofs.build_table.Tie as tie
-use Rattle.builder.proofs.build_table.Reads as reads
-use Rattle.builder.proofs.build_table.Lts as lts
-use Rattle.builder.proofs.clear.Reads as clear-reads
-use Rattle.builder.proofs.histories.Reads as histories-reads
-use Rattle.builder.proofs.history_length.Reads as history-length-reads
-use Rattle.builder.proofs.number_states.Reads as number-states-reads
-use Rattle.builder.proofs.write.write_table.Reads as write-table-reads
 
--- src/lib.rt:85:9
 history-length-requires : tie.Need-history-length-requires
 history-length-requires c κs = search needs
 
--- src/lib.rt:86:9
 histories-requires : tie.Need-histories-requires
 histories-requires c κs = search needs
 
--- src/lib.rt:87:9
 number-states-requires : tie.Need-number-states-requires
 number-states-requires c κs = search needs
 
--- src/lib.rt:88:20
 mul-size : tie.Need-mul-size
 mul-size c = search needs
 
--- src/lib.rt:88:16
 add-size : tie.Need-add-size
 add-size c = search needs
 
--- src/lib.rt:90:9
 clear-requires : tie.Need-clear-requires
 clear-requires c κs = search needs
 
--- src/lib.rt:91:9
 same-length : tie.Need-same-length
 same-length c = search needs
 
--- src/lib.rt:91:9
 returns : tie.Need-returns
-returns c = ?
+returns c =
+    let k = c .before .before in
+    let h = k .before .before .before .before .before in
+    let s = h .before .before .before .before .before .before in
+    let n = h .before .before .histories .result in
+    let w = h .number-states .last .1 .1 .1 .0 in
+    let m = tableMachine n w (h .number-states .result) in
+    (m, short-table (s .args .set) (s .args .work .now) (k .clear .last .0) (s .args .table .now) m (h .number-states .ensures .canonical)
+    (clear-within (s .args .work .now) w (k .clear .last .0) (h .number-states .ensures .within) (k .clear .ensures)) (k .before .before .if1 .taken))
 
--- src/lib.rt:93:5
 write-table-requires : tie.Need-write-table-requires
 write-table-requires c κs = search needs
 
--- src/lib.rt:94:5
 clear-requires-2 : tie.Need-clear-requires-2
 clear-requires-2 c κs = search needs
 
--- src/lib.rt:81:1
 same-length-2 : tie.Need-same-length-2
 same-length-2 c = search needs
 
--- src/lib.rt:81:1
 same-length-3 : tie.Need-same-length-3
 same-length-3 c = search needs
 
--- src/lib.rt:81:1
 returns-2 : tie.Need-returns-2
-returns-2 c = ?
+returns-2 c =
+    let k = c .before .before in
+    let t = k .before .before .before .before in
+    let i = t .before .before .before in
+    let h = i .before .before .before in
+    let s = h .before .before .before .before .before .before in
+    let n = h .before .before .histories .result in
+    let w = h .number-states .last .1 .1 .1 .0 in
+    let m = tableMachine n w (h .number-states .result) in
+    (m, whole-table (s .args .set) (s .args .work .now) (k .clear2 .last .0) (s .args .table .now) m (h .number-states .ensures .canonical)
+    (clear-within (s .args .work .now) w (k .clear2 .last .0) (h .number-states .ensures .within) (k .clear2 .ensures)) _ (i .if1 .left) (t .write-table .ensures))
 
 pub build-table-spec : {M : Type 1} → statement M
 build-table-spec =

@@ -1,0 +1,103 @@
+-- What each way out of the builder gives: a refusal is the first row that holds, and past 8 the work area is cleared. Assumes nothing.
+use mathlib.Core.Path.{_≡_, refl, sym, ap, ap₂, _∙_, subst}
+use mathlib.Core.Option.{none}
+use mathlib.Core.List.{List, [], _∷_, _++_}
+use Prim.Native.Nat.{ℕ, _≤_, _<_}
+use borrow.Author.Tests.{lt-ltb, le-ltb}
+use lib.Dec.{ltb}
+use lib.ListN.{length, drop}
+use Rattle.layout.specs.Refusal.{Row, row, Tested, passed, refused, first}
+use Rattle.layout.proofs.Rows.{and-then, first-append, first-here, first-skip, passed-not-refused}
+use Rattle.machines.specs.Machine.{Machine}
+use Rattle.machines.specs.Canonical.{Canonical}
+use Rattle.meaning.specs.declared.LimitSet.{LimitSet}
+use Rattle.meaning.specs.Sets.{KeptBy}
+use Rattle.sets.specs.Bytes.{setOf}
+use Rattle.sets.specs.Rows.{setRows}
+use Rattle.table.specs.Bytes.{bytesOf, sizeOf}
+use Rattle.classes.specs.Area.{areaSize, Within}
+use Rattle.builder.specs.declared.BuildAnswer.{BuildAnswer}
+use Rattle.builder.specs.declared.BuildAnswer.the-variants.{Built, Refused}
+use Rattle.builder.specs.Build.{areaRow, roomRow, earlyRows, buildRows, lengthWhen, Cleared, WorkAfter, tableWhen, BuiltWith, BuiltAs}
+use Rattle.builder.specs.Steps.{BuildsTable}
+
+pub clear-within : (a b c : List ℕ) → Within a b → Cleared b c → Cleared a c
+clear-within a b c f g = record {
+  length-stays = g .length-stays ∙ f .length-stays;
+  zero = g .zero;
+  beyond = λ k h. g .beyond k h ∙ f .beyond k h;
+}
+
+-- one row, and no other
+one-row : (n v : ℕ) (a b : ℕ) → a < b → first (row n (ltb a b) v ∷ []) ≡ refused n v
+one-row n v a b h = first-here n v (ltb a b) [] (lt-ltb a b h)
+
+no-row : (n v : ℕ) (a b : ℕ) → b ≤ a → first (row n (ltb a b) v ∷ []) ≡ passed
+unfolding first
+no-row n v a b h = first-skip n v (ltb a b) [] (le-ltb a b h)
+
+module _ (s : LimitSet) (work work′ table : List ℕ) (m : Machine) (canonical : Canonical m (KeptBy s)) (cleared : Cleared work work′) where
+  pub short-table : length table < sizeOf (m .states) → BuildsTable s work work′ table table (Refused 9 (sizeOf (m .states))) m
+  short-table h =
+      let e = one-row 9 (sizeOf (m .states)) (length table) (sizeOf (m .states)) h in
+      record {
+        canonical = canonical;
+        answer = sym e;
+        returned = sym (ap (λ z. lengthWhen z (sizeOf (m .states))) e);
+        cleared = cleared;
+        table-after = sym (ap (λ z. tableWhen z m table) e);
+      }
+
+  pub whole-table : (table′ : List ℕ) → sizeOf (m .states) ≤ length table → table′ ≡ bytesOf m ++ drop (sizeOf (m .states)) table → BuildsTable s work work′ table table′ (Built (sizeOf (m .states))) m
+  whole-table table′ h q =
+      let e = no-row 9 (sizeOf (m .states)) (length table) (sizeOf (m .states)) h in
+      record {
+        canonical = canonical;
+        answer = sym e;
+        returned = sym (ap (λ z. lengthWhen z (sizeOf (m .states))) e);
+        cleared = cleared;
+        table-after = q ∙ sym (ap (λ z. tableWhen z m table) e);
+      }
+
+-- stands where no table is asked for
+no-machine : Machine
+no-machine = record { states = 0; start = 0; next = λ s o. none }
+
+module _ (longest : ℕ) (set work table : List ℕ) where
+  early : (t u : Tested) → first (setRows longest set) ≡ t → first (areaRow work ∷ []) ≡ u → first (earlyRows longest set work) ≡ and-then t u
+  early t u e f = first-append (setRows longest set) (areaRow work ∷ []) ∙ ap₂ and-then e f
+
+  all : (size : ℕ) (t u : Tested) → first (earlyRows longest set work) ≡ t → first (roomRow table size ∷ []) ≡ u → first (buildRows longest set work table size) ≡ and-then t u
+  all size t u e f = first-append (earlyRows longest set work) (roomRow table size ∷ []) ∙ ap₂ and-then e f
+
+  refused-early : (n v : ℕ) → first (earlyRows longest set work) ≡ refused n v → BuiltAs longest set work work table table (Refused n v)
+  refused-early n v e =
+      let size = sizeOf (no-machine .states) in
+      let f = all size (refused n v) _ e refl in
+      (no-machine, record {
+        canonical = λ p. absurd (passed-not-refused (sym p ∙ e));
+        answer = sym f;
+        returned = sym (ap (λ z. lengthWhen z size) f);
+        work-after = subst (λ z. WorkAfter z work work) (sym e) refl;
+        table-after = sym (ap (λ z. tableWhen z no-machine table) f);
+      })
+
+  pub refused-set : (n v : ℕ) → first (setRows longest set) ≡ refused n v → BuiltAs longest set work work table table (Refused n v)
+  refused-set n v e = refused-early n v (early (refused n v) _ e refl)
+
+  pub refused-area : first (setRows longest set) ≡ passed → length work < areaSize → BuiltAs longest set work work table table (Refused 8 0)
+  refused-area e h = refused-early 8 0 (early passed (refused 8 0) e (one-row 8 0 (length work) areaSize h))
+
+  pub built-table : (work′ table′ : List ℕ) (r : BuildAnswer) → first (setRows longest set) ≡ passed → areaSize ≤ length work
+      → (m : Machine) × BuildsTable (setOf set) work work′ table table′ r m → BuiltAs longest set work work′ table table′ r
+  built-table work′ table′ r e h (m, b) =
+      let size = sizeOf (m .states) in
+      let p : first (earlyRows longest set work) ≡ passed = early passed passed e (no-row 8 0 (length work) areaSize h) in
+      let f : first (buildRows longest set work table size) ≡ first (roomRow table size ∷ []) = all size passed _ p refl in
+      (m, record {
+        canonical = λ q. b .canonical;
+        answer = b .answer ∙ sym f;
+        returned = b .returned ∙ sym (ap (λ z. lengthWhen z size) f);
+        work-after = subst (λ z. WorkAfter z work work′) (sym p) (b .cleared);
+        table-after = b .table-after ∙ sym (ap (λ z. tableWhen z m table) f);
+      })
