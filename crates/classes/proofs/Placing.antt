@@ -59,7 +59,6 @@ module _ (w : List ℕ) (n h s r : ℕ) (P : Placed w n h) (hn : h < n) (es : s 
     pub placed-alone : h ≤ r → Placed w₃ n (h + 1) × Kept w w₃
     placed-alone l =
         let fits = P .room .fits in
-        let long = P .room .long in
         let er : r ≡ h = omega (arith, F .no-greater) in
         let bl : b < n = omega (arith, bucket-lt n s (P .room .some-history)) in
         let own : b ≡ bucketOf w n h = eb ∙ ap (bucket n) es in
