@@ -9,6 +9,7 @@ use lib.Seq.{take-at, drop-drop, length-take-le, sets-eq, drop-append-add}
 use mathlib.Core.Bool.{true, false}
 use Rattle.machines.specs.Machine.{Machine}
 use Rattle.table.specs.Bytes.{pairBytes, entryOf, rowBytes}
+use Rattle.table.proofs.Bytes.{length-rows}
 use Rattle.builder.specs.Rows.{headThen}
 
 pub four-stores : (l : List ℕ) (at a b c d : ℕ) → at + 4 ≤ length l → set (set (set (set l at a) (at + 1) b) (at + 2) c) (at + 3) d ≡ take at l ++ (a ∷ b ∷ c ∷ d ∷ drop (at + 4) l)
@@ -31,11 +32,6 @@ rows-more m s (suc n) =
     let e : suc s + n ≡ s + suc n = omega arith in
     ap (λ z. pairBytes (entryOf (m .next s false)) (pairBytes (entryOf (m .next s true)) z)) (rows-more m (suc s) n ∙ ap (λ z. rowBytes m (suc s) n ++ rowOf m z) e)
 
-rows-length : (m : Machine) (s n : ℕ) → length (rowBytes m s n) ≡ 4 * n
-unfolding rowBytes
-rows-length m s zero = refl
-rows-length m s (suc n) = omega (arith, rows-length m (suc s) n)
-
 -- d with the rows of the first i states written after its first seven bytes
 abbrev pub rowsIn : Machine → List ℕ → ℕ → List ℕ
 rowsIn m d i = take 7 d ++ (rowBytes m 0 i ++ drop (7 + 4 * i) d)
@@ -50,7 +46,7 @@ row-more m d out i fits e =
     let at = 7 + 4 * i in
     let p = take 7 d ++ rowBytes m 0 i in
     let r = rowOf m i in
-    let pl : length p ≡ at = omega (arith, length-append (take 7 d) (rowBytes m 0 i), length-take-le 7 d (omega arith), rows-length m 0 i) in
+    let pl : length p ≡ at = omega (arith, length-append (take 7 d) (rowBytes m 0 i), length-take-le 7 d (omega arith), length-rows m 0 i) in
     let f : out ≡ p ++ drop at d = e ∙ sym (append-assoc (take 7 d) (rowBytes m 0 i) (drop at d)) in
     let z : 0 + i ≡ i = omega arith in
     let n : at + 4 ≡ 7 + 4 * (i + 1) = omega arith in

@@ -13,7 +13,7 @@ use Rattle.layout.specs.Bytes.{byteAt}
 use Rattle.layout.specs.Refusal.{passed, first}
 use Rattle.machines.specs.Machine.{Machine}
 use Rattle.machines.specs.Canonical.{OneTable}
-use Rattle.table.specs.Bytes.{pairAt, stateCount, missEntry, hitEntry, noMiss, nextIn, machineOf, entryOf, pairBytes, rowBytes, bytesOf}
+use Rattle.table.specs.Bytes.{sizeOf, pairAt, stateCount, missEntry, hitEntry, noMiss, nextIn, machineOf, entryOf, pairBytes, rowBytes, bytesOf}
 use Rattle.table.specs.Rows.{tableRows}
 use Rattle.table.specs.Writable.{Writable}
 use Rattle.table.proofs.Checked.{Table, table-passed}
@@ -23,7 +23,7 @@ abbrev Pairs : List ℕ → (j miss hit : ℕ) → Type 0
 Pairs l j miss hit = (pairAt l (4 * j) ≡ miss) × (pairAt l (4 * j + 2) ≡ hit)
 
 module _ (m : Machine) where
-  length-rows : (s n : ℕ) → length (rowBytes m s n) ≡ 4 * n
+  pub length-rows : (s n : ℕ) → length (rowBytes m s n) ≡ 4 * n
   unfolding rowBytes
   length-rows s zero = refl
   length-rows s (suc n) = let h = length-rows (suc s) n in omega arith
@@ -129,3 +129,6 @@ bytes-of-one-table m n e =
     let f = e .states in
     let g = rows-alike m n 0 (m .states) (λ j o h. e .moves j o (omega arith)) in
     cc
+
+pub bytes-length : (m : Machine) → length (bytesOf m) ≡ sizeOf (m .states)
+bytes-length m = omega (arith, length-rows m 0 (m .states))

@@ -1,0 +1,138 @@
+-- What is known of a table that the builder wrote: its bytes are those of a canonical machine for what the set keeps, they pass the table check, and walking them is walking that machine. Assumes nothing.
+use mathlib.Core.Path.{_≡_, refl, sym, ap, ap₂, _∙_, subst}
+use mathlib.Core.Logic.{_↔_, Iff·trans}
+use mathlib.Core.Option.{Option, none, some}
+use mathlib.Core.Bool.{Bool, true, false, cond}
+use mathlib.Core.List.{List, [], _∷_, _++_}
+use Prim.Native.Nat.{ℕ, suc, _+_, _-_, _*_, _%_, _^_, _≤_, _<_}
+use native.Mathlib.Nat.{mod-lt}
+use native.Mathlib.Omega.{arith}
+use lib.Pow.{pow-pos}
+use lib.ListN.{length, take, drop}
+use lib.Seq.{take-at}
+use Rattle.layout.specs.Refusal.{Tested, passed, refused, first}
+use Rattle.layout.proofs.Rows.{and-then, first-append, passed-not-refused}
+use Rattle.machines.specs.Machine.{Machine, WellMade, onward, walk, Walks}
+use Rattle.machines.specs.Canonical.{Canonical, OneTable}
+use Rattle.machines.proofs.Walk.{walk-snoc}
+use Rattle.machines.proofs.Fewest.{canonical-fewest}
+use Rattle.meaning.specs.declared.LimitSet.{LimitSet}
+use Rattle.meaning.specs.Longest.{longest}
+use Rattle.meaning.specs.Sets.{SetAllowed, KeptBy}
+use Rattle.meaning.proofs.SetLaws.{kept-by-hit}
+use Rattle.patterns.specs.Outcome.{bit}
+use Rattle.history.specs.History.{pushed}
+use Rattle.history.specs.MayMiss.{mayMiss}
+use Rattle.history.specs.Machine.{historyNext, historyMachine}
+use Rattle.history.proofs.Walked.{kept-walked}
+use Rattle.sets.specs.Bytes.{setOf}
+use Rattle.sets.specs.Rows.{setRows}
+use Rattle.sets.proofs.Accepted.{accepted-allowed}
+use Rattle.table.specs.Bytes.{machineOf, bytesOf, sizeOf}
+use Rattle.table.specs.Rows.{tableRows, mostStates}
+use Rattle.table.specs.Writable.{Writable}
+use Rattle.table.proofs.Bytes.{machine-of-bytes, bytes-checked, bytes-length}
+use Rattle.builder.specs.declared.BuildAnswer.{BuildAnswer}
+use Rattle.builder.specs.declared.BuildAnswer.the-variants.{Built, Refused}
+use Rattle.builder.specs.Build.{areaRow, roomRow, earlyRows, buildRows, lengthWhen, tableWhen, BuiltWith, BuiltAs}
+
+-- machines with one table walk alike
+pub one-walk : (m n : Machine) → WellMade m → OneTable m n → (s : ℕ) → s < m .states → (p : List Bool) → walk m s p ≡ walk n s p
+one-walk m n w o s l [] = refl
+one-walk m n w o s l (x ∷ p) = ap (λ z. onward z (λ t. walk m t p)) (o .moves s x l) ∙ go (n .next s x) refl (λ t h. one-walk m n w o t h p)
+  where
+    go : (r : Option ℕ) → n .next s x ≡ r → ((t : ℕ) → t < m .states → walk m t p ≡ walk n t p) → onward r (λ t. walk m t p) ≡ onward r (λ t. walk n t p)
+    go none e ih = refl
+    go (some t) e ih = ih t (w .next-below s t x l (o .moves s x l ∙ e))
+
+history-well-made : (s : LimitSet) (m : ℕ) → WellMade (historyMachine s m)
+history-well-made s m = record { start-below = omega (arith, pow-pos m); next-below = below }
+  where
+    pushed-below : (h : ℕ) (o : Bool) → pushed m h o < 2 ^ m
+    pushed-below h o = mod-lt (h * 2 + bit o) (pow-pos m)
+
+    missed : (h t : ℕ) (b : Bool) → cond b (some (pushed m h false)) none ≡ some t → t < 2 ^ m
+    missed h t true e = let f : pushed m h false ≡ t = cc in subst (λ z. z < 2 ^ m) f (pushed-below h false)
+    missed h t false e = let z : _≡_ {A = ℕ} 0 1 = cc in absurd (omega arith)
+
+    below : (h t : ℕ) (o : Bool) → h < 2 ^ m → historyNext s m h o ≡ some t → t < 2 ^ m
+    below h t true l e = let f : pushed m h true ≡ t = cc in subst (λ z. z < 2 ^ m) f (pushed-below h true)
+    below h t false l e = missed h t (mayMiss s h) e
+
+module _ (s : LimitSet) (ok : SetAllowed longest s) (m : Machine) (canonical : Canonical m (KeptBy s)) where
+  abbrev source : Machine
+  source = historyMachine s (longest - 1)
+
+  pub walked-by-histories : (p : List Bool) → Walks source p ↔ KeptBy s p
+  walked-by-histories = kept-walked s (longest - 1) ok
+
+  -- "n (1 to 2,048)"
+  pub no-more-states : m .states ≤ mostStates
+  no-more-states = canonical-fewest m source (KeptBy s) canonical (history-well-made s (longest - 1)) walked-by-histories
+
+  -- "A hit is always allowed."
+  hit-allowed : (t : ℕ) → t < m .states → (u : ℕ) × (m .next t true ≡ some u)
+  hit-allowed t l =
+      let (p, first-to) = canonical .first t l in
+      let (u, e) = canonical .exact (p ++ true ∷ []) .1 (kept-by-hit s p (canonical .exact p .0 (t, first-to .reaches))) in
+      (u, sym (walk-snoc m (m .start) t p true (first-to .reaches)) ∙ e)
+
+  pub canonical-writable : Writable m
+  canonical-writable = record {
+    well-made = canonical .well-made;
+    starts-at-0 = canonical .starts-at-0;
+    most = no-more-states;
+    hit-allowed = hit-allowed;
+  }
+
+-- what a build that wasn't refused says
+module _ (set work work′ table table′ : List ℕ) (size : ℕ) (built : BuiltAs longest set work work′ table table′ (Built size)) where
+  abbrev m : Machine
+  m = built .0
+
+  all-passed : first (buildRows longest set work table (sizeOf (m .states))) ≡ passed
+  all-passed = sym (built .1 .answer)
+
+  early-passed : first (earlyRows longest set work) ≡ passed
+  early-passed = go (first (earlyRows longest set work)) refl
+    where
+      go : (t : Tested) → first (earlyRows longest set work) ≡ t → first (earlyRows longest set work) ≡ passed
+      go passed e = e
+      go (refused n v) e =
+          absurd (passed-not-refused (sym all-passed ∙ first-append (earlyRows longest set work) (roomRow table (sizeOf (m .states)) ∷ [])
+          ∙ ap (λ z. and-then z (first (roomRow table (sizeOf (m .states)) ∷ []))) e))
+
+  set-passed : first (setRows longest set) ≡ passed
+  set-passed = go (first (setRows longest set)) refl
+    where
+      go : (t : Tested) → first (setRows longest set) ≡ t → first (setRows longest set) ≡ passed
+      go passed e = e
+      go (refused n v) e =
+          absurd (passed-not-refused (sym early-passed ∙ first-append (setRows longest set) (areaRow work ∷ []) ∙ ap (λ z. and-then z (first (areaRow work ∷ []))) e))
+
+  pub built-allowed : SetAllowed longest (setOf set)
+  built-allowed = accepted-allowed longest set set-passed
+
+  pub built-canonical : Canonical m (KeptBy (setOf set))
+  built-canonical = built .1 .canonical early-passed
+
+  built-writable : Writable m
+  built-writable = canonical-writable (setOf set) built-allowed m built-canonical
+
+  built-size : size ≡ sizeOf (m .states)
+  built-size = built .1 .returned ∙ ap (λ z. lengthWhen z (sizeOf (m .states))) all-passed
+
+  -- the table: as many bytes of the buffer as the builder returned
+  abbrev pub bytes : List ℕ
+  bytes = take size table′
+
+  pub built-bytes : bytes ≡ bytesOf m
+  built-bytes =
+      ap₂ take built-size (built .1 .table-after ∙ ap (λ z. tableWhen z m table) all-passed)
+      ∙ take-at (bytesOf m) (drop (sizeOf (m .states)) table) (sizeOf (m .states)) (bytes-length m)
+
+  pub built-checked : first (tableRows bytes) ≡ passed
+  built-checked = subst (λ z. first (tableRows z) ≡ passed) (sym built-bytes) (bytes-checked m built-writable)
+
+  pub built-one-table : OneTable (machineOf bytes) m
+  built-one-table = subst (λ z. OneTable (machineOf z) m) (sym built-bytes) (machine-of-bytes m built-writable)
