@@ -6,7 +6,7 @@ use Prim.Native.Nat.{ℕ, _≤_, _<_}
 use borrow.Author.Tests.{lt-ltb, le-ltb}
 use lib.Dec.{ltb}
 use lib.ListN.{length, drop}
-use Rattle.layout.specs.Refusal.{Row, row, Tested, passed, refused, first}
+use Rattle.layout.specs.Refusal.{row, Tested, passed, refused, first}
 use Rattle.layout.proofs.Rows.{and-then, first-append, first-here, first-skip, passed-not-refused}
 use Rattle.machines.specs.Machine.{Machine}
 use Rattle.machines.specs.Canonical.{Canonical}
@@ -18,7 +18,7 @@ use Rattle.table.specs.Bytes.{bytesOf, sizeOf}
 use Rattle.classes.specs.Area.{areaSize, Within}
 use Rattle.builder.specs.declared.BuildAnswer.{BuildAnswer}
 use Rattle.builder.specs.declared.BuildAnswer.the-variants.{Built, Refused}
-use Rattle.builder.specs.Build.{areaRow, roomRow, earlyRows, buildRows, lengthWhen, Cleared, WorkAfter, tableWhen, BuiltWith, BuiltAs}
+use Rattle.builder.specs.Build.{areaRow, roomRow, earlyRows, buildRows, lengthWhen, Cleared, WorkAfter, tableWhen, BuiltAs}
 use Rattle.builder.specs.Steps.{BuildsTable}
 
 pub clear-within : (a b c : List ℕ) → Within a b → Cleared b c → Cleared a c

@@ -1,11 +1,11 @@
 -- The builder's promise allows one result: past 8 the machine is canonical for the set's patterns, so its table is unique; before that no machine is asked for. Assumes nothing.
-use mathlib.Core.Path.{_≡_, refl, sym, ap, ap₂, _∙_, subst}
+use mathlib.Core.Path.{_≡_, refl, sym, ap, ap₂, _∙_}
 use mathlib.Core.Logic.{dite}
 use mathlib.Core.List.{List, [], _∷_, _++_}
-use Prim.Native.Nat.{ℕ, _≤_, _<_}
+use Prim.Native.Nat.{ℕ}
 use native.Mathlib.Decide.{decLt}
 use native.Mathlib.Omega.{arith}
-use lib.ListN.{length, getD, drop}
+use lib.ListN.{drop}
 use lib.Seq.{ext-getD}
 use Rattle.layout.specs.Refusal.{Tested, passed, refused, first}
 use Rattle.layout.proofs.Rows.{and-then, first-append, passed-not-refused}

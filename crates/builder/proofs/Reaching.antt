@@ -1,10 +1,7 @@
 -- Histories one shorter than the widest window are long enough: each limit stays allowed with its own window for the longest. Assumes nothing.
-use mathlib.Core.Path.{_≡_, ap, _∙_}
-use Prim.Native.Nat.{ℕ, zero, suc, _+_, _≤_, _<_}
-use native.Mathlib.Omega.{arith}
-use Rattle.meaning.specs.declared.Limit.{Limit}
+use Prim.Native.Nat.{ℕ, _≤_, _<_}
 use Rattle.meaning.specs.declared.LimitSet.{LimitSet}
-use Rattle.meaning.specs.Limit.{Rule, AnyHit, RowHit, AnyMiss, RowMiss, RuleAllowed, Allowed, ruleOf, width}
+use Rattle.meaning.specs.Limit.{Rule, AnyHit, RowHit, AnyMiss, RowMiss, RuleAllowed, ruleOf, width}
 use Rattle.meaning.specs.Sets.{SetAllowed, limitAt}
 
 narrower : (w v : ℕ) (l : Rule) → RuleAllowed w l → width l ≤ v → RuleAllowed v l

@@ -1,8 +1,8 @@
 -- The outcomes of a history as a pattern: how many, what number they write, and that a short pattern with hits before it is what its history holds. Assumes nothing.
-use mathlib.Core.Path.{_≡_, refl, sym, ap, _∙_, subst}
-use mathlib.Core.Bool.{Bool, true, false}
+use mathlib.Core.Path.{_≡_, refl, sym, ap, _∙_}
+use mathlib.Core.Bool.{Bool, true}
 use mathlib.Core.List.{List, [], _∷_, _++_, reverse, reverse-cons, reverse-reverse}
-use Prim.Native.Nat.{ℕ, zero, suc, _+_, _-_, _*_, _/_, _%_, _^_, _≤_, _<_}
+use Prim.Native.Nat.{ℕ, zero, suc, _+_, _-_, _/_, _%_, _^_, _≤_, _<_}
 use native.Mathlib.Nat.{pow-suc, zero-add, suc-add}
 use native.Mathlib.Decide.{ℕ-discrete}
 use native.Mathlib.Omega.{arith}
@@ -14,12 +14,12 @@ use lib.IntN.{pos, negsuc, _-ℤ_}
 use Rattle.patterns.specs.Outcome.{bit}
 use Rattle.patterns.specs.Number.{number}
 use Rattle.patterns.proofs.Numbers.{number-snoc, length-snoc}
-use Rattle.meaning.specs.Window.{around, window, recent}
+use Rattle.meaning.specs.Window.{around, recent}
 use Rattle.meaning.proofs.Decide.{neg-back}
 use Rattle.meaning.proofs.MissMore.{recent-suc, from-end}
 use Rattle.meaning.proofs.Witness.{window-itself}
 use Rattle.history.specs.History.{historyOf, newest}
-use Rattle.history.proofs.Histories.{newest-number, newest-history, length-recent}
+use Rattle.history.proofs.Histories.{newest-number, newest-history}
 use Rattle.compare.specs.Splits.{outcomesOf}
 
 pub outcomes-suc : (n h : ℕ) → outcomesOf (suc n) h ≡ outcomesOf n (h / 2) ++ eqb (h % 2) 1 ∷ []

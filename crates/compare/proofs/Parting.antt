@@ -15,7 +15,7 @@ use Rattle.meaning.proofs.Decide.{T-true, T-of, not-T-false}
 use Rattle.meaning.proofs.Search.{first-loss}
 use Rattle.history.specs.History.{historyOf}
 use Rattle.history.proofs.MissLaws.{may-miss-kept}
-use Rattle.compare.specs.Splits.{outcomesOf, Splits}
+use Rattle.compare.specs.Splits.{Splits}
 use Rattle.compare.proofs.Outcomes.{outcomes-history}
 use Rattle.compare.proofs.Back.{kept-by-hits-before, kept-by-after-hits}
 

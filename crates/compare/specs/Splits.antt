@@ -1,6 +1,5 @@
 -- Where two sets part: a history after which one more miss is kept by the first set and not by the second. The history length m is a variable.
 use mathlib.Core.Path.{_≡_}
-use mathlib.Core.Logic.{_↔_}
 use mathlib.Core.Bool.{Bool, true, false}
 use mathlib.Core.List.{List, reverse}
 use Prim.Native.Nat.{ℕ, _≤_, _<_}

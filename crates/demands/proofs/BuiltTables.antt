@@ -1,14 +1,14 @@
 -- What is known of a table that the builder wrote: its bytes are those of a canonical machine for what the set keeps, they pass the table check, and walking them is walking that machine. Assumes nothing.
 use mathlib.Core.Path.{_≡_, refl, sym, ap, ap₂, _∙_, subst}
-use mathlib.Core.Logic.{_↔_, Iff·trans}
+use mathlib.Core.Logic.{_↔_}
 use mathlib.Core.Option.{Option, none, some}
 use mathlib.Core.Bool.{Bool, true, false, cond}
 use mathlib.Core.List.{List, [], _∷_, _++_}
-use Prim.Native.Nat.{ℕ, suc, _+_, _-_, _*_, _%_, _^_, _≤_, _<_}
+use Prim.Native.Nat.{ℕ, _+_, _-_, _*_, _^_, _≤_, _<_}
 use native.Mathlib.Nat.{mod-lt}
 use native.Mathlib.Omega.{arith}
 use lib.Pow.{pow-pos}
-use lib.ListN.{length, take, drop}
+use lib.ListN.{take, drop}
 use lib.Seq.{take-at}
 use Rattle.layout.specs.Refusal.{Tested, passed, refused, first}
 use Rattle.layout.proofs.Rows.{and-then, first-append, passed-not-refused}
@@ -32,9 +32,8 @@ use Rattle.table.specs.Bytes.{machineOf, bytesOf, sizeOf}
 use Rattle.table.specs.Rows.{tableRows, mostStates}
 use Rattle.table.specs.Writable.{Writable}
 use Rattle.table.proofs.Bytes.{machine-of-bytes, bytes-checked, bytes-length}
-use Rattle.builder.specs.declared.BuildAnswer.{BuildAnswer}
-use Rattle.builder.specs.declared.BuildAnswer.the-variants.{Built, Refused}
-use Rattle.builder.specs.Build.{areaRow, roomRow, earlyRows, buildRows, lengthWhen, tableWhen, BuiltWith, BuiltAs}
+use Rattle.builder.specs.declared.BuildAnswer.the-variants.{Built}
+use Rattle.builder.specs.Build.{areaRow, roomRow, earlyRows, buildRows, lengthWhen, tableWhen, BuiltAs}
 
 -- machines with one table walk alike
 pub one-walk : (m n : Machine) → WellMade m → OneTable m n → (s : ℕ) → s < m .states → (p : List Bool) → walk m s p ≡ walk n s p

@@ -13,7 +13,7 @@ use Rattle.layout.proofs.Rows.{passed-not-refused}
 use Rattle.patterns.specs.Outcome.{outcomes}
 use Rattle.patterns.specs.Number.{number}
 use Rattle.patterns.proofs.Numbers.{number-hits}
-use Rattle.machines.specs.Machine.{Machine, walk, Can, Walks}
+use Rattle.machines.specs.Machine.{Machine, walk, Can}
 use Rattle.machines.proofs.Walk.{walk-below}
 use Rattle.machines.proofs.Meeting.{meeting-same}
 use Rattle.meaning.specs.Longest.{longest}
@@ -22,7 +22,7 @@ use Rattle.meaning.specs.Sets.{KeptBy, LostAt, Panic}
 use Rattle.meaning.specs.Covers.{FirstBetween}
 use Rattle.meaning.specs.Covers as meant
 use Rattle.meaning.proofs.MissMore.{recent-snoc}
-use Rattle.meaning.proofs.SetLaws.{kept-by-empty, kept-by-hit}
+use Rattle.meaning.proofs.SetLaws.{kept-by-hit}
 use Rattle.meaning.proofs.Search.{kept-by-dec}
 use Rattle.meaning.proofs.Unique.{kept-not-lost}
 use Rattle.history.specs.History.{historyOf}
@@ -36,7 +36,6 @@ use Rattle.verdict.specs.Judge.{judgeRows, says, Verdict, JudgedAs}
 use Rattle.compare.specs.declared.Compared.{Compared}
 use Rattle.compare.specs.declared.CompareAnswer.{CompareAnswer}
 use Rattle.compare.specs.declared.CompareAnswer.the-variants as comparison
-use Rattle.compare.specs.declared.Pattern.{Pattern}
 use Rattle.compare.specs.Compare.{packed, both-passed, in-turn, says as compare-says, Answers, ComparedAs}
 use Rattle.table.specs.Bytes.{machineOf}
 use Rattle.table.proofs.Checked.{checked-well-made}

@@ -1,5 +1,5 @@
 -- Demand 3: "Two accepted sets, given room, yield the same table, byte for byte, exactly when they keep the same finite patterns; and no machine with fewer states walks exactly those patterns." Assumes nothing.
-use mathlib.Core.Path.{_≡_, sym, ap, _∙_, subst}
+use mathlib.Core.Path.{_≡_, sym, _∙_, subst}
 use mathlib.Core.Logic.{_↔_, Iff·trans, Iff·symm}
 use mathlib.Core.Bool.{Bool}
 use mathlib.Core.List.{List}

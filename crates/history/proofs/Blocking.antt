@@ -1,17 +1,16 @@
 -- The lowest limit that blocks a miss: there is one result, none blocks exactly when a miss may follow, and the numbers of an allowed limit. Assumes nothing.
-use mathlib.Core.Path.{_≡_, sym, ap, _∙_, subst}
+use mathlib.Core.Path.{_≡_, sym, _∙_}
 use mathlib.Core.Logic.{dite}
-use mathlib.Core.Bool.{Bool, true, false, false≢true}
+use mathlib.Core.Bool.{true, false, false≢true}
 use Prim.Native.Nat.{ℕ, zero, suc, _≤_, _<_}
 use native.Mathlib.Decide.{decLt, ℕ-discrete}
 use native.Mathlib.Omega.{arith}
 use borrow.Author.Tests.{eq-eqb, ne-eqb}
-use lib.Dec.{T, eqb}
+use lib.Dec.{eqb}
 use Rattle.meaning.specs.declared.Limit.{Limit}
 use Rattle.meaning.specs.declared.LimitSet.{LimitSet}
 use Rattle.meaning.specs.Limit.{Allowed, RuleAllowed, ruleFrom}
 use Rattle.meaning.specs.Sets.{ruleAt}
-use Rattle.meaning.specs.Test.{every}
 use Rattle.meaning.proofs.Decide.{T-true, T-of, every-at, every-from, not-T-false}
 use Rattle.history.specs.MayMiss.{mayMissUnder, mayMiss, Blocks}
 

@@ -8,12 +8,12 @@ use native.Mathlib.Omega.{arith}
 use lib.Dec.{eqb}
 use lib.Arith.{digits-mod}
 use lib.Bits.{block-half, block-odd}
-use lib.ListN.{length, replicate}
+use lib.ListN.{length}
 use lib.IntN.{pos, _-ℤ_}
 use Rattle.patterns.specs.Outcome.{bit}
 use Rattle.patterns.specs.Number.{number}
 use Rattle.patterns.proofs.Numbers.{number-lt, number-snoc, number-hits}
-use Rattle.meaning.specs.Window.{around, window, recent}
+use Rattle.meaning.specs.Window.{around, recent}
 use Rattle.meaning.proofs.SetLaws.{window-empty}
 use Rattle.meaning.proofs.TwoKinds.{length-window}
 use Rattle.meaning.proofs.MissMore.{recent-suc, recent-snoc}

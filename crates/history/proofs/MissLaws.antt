@@ -1,9 +1,9 @@
 -- After a kept pattern a miss may follow, by the history alone, exactly when the pattern with the miss is kept: the laws of one miss more, read off the newest bits. Assumes nothing.
 use mathlib.Core.Path.{_≡_, refl, sym, ap, _∙_, subst}
 use mathlib.Core.Logic.{_↔_}
-use mathlib.Core.Bool.{Bool, true, false}
+use mathlib.Core.Bool.{Bool, false}
 use mathlib.Core.List.{List, [], _∷_, _++_}
-use Prim.Native.Nat.{ℕ, zero, suc, _-_, _≤_, _<_}
+use Prim.Native.Nat.{ℕ, zero, suc, _-_, _≤_}
 use native.Mathlib.Omega.{arith}
 use lib.Dec.{T, leb, leb→le, le→leb}
 use Rattle.meaning.specs.declared.LimitSet.{LimitSet}
@@ -12,7 +12,7 @@ use Rattle.meaning.specs.Holds.{hits, Run}
 use Rattle.meaning.specs.Window.{recent}
 use Rattle.meaning.specs.Kept.{Kept}
 use Rattle.meaning.specs.Sets.{SetAllowed, KeptBy, ruleAt}
-use Rattle.meaning.specs.Test.{every, hasRun}
+use Rattle.meaning.specs.Test.{hasRun}
 use Rattle.meaning.proofs.TwoKinds.{any-miss-kept, row-miss-kept}
 use Rattle.meaning.proofs.MissMore.{miss-more-any, miss-more-row}
 use Rattle.meaning.proofs.Decide.{run-iff, every-at, every-from}

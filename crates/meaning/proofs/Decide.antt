@@ -1,22 +1,22 @@
 -- A test that says whether a pattern is kept, and that it is right. Assumes nothing.
-use mathlib.Core.Path.{_≡_, refl, sym, ap, ap₂, _∙_, subst}
+use mathlib.Core.Path.{_≡_, refl, sym, ap, _∙_, subst}
 use mathlib.Core.Logic.{_↔_, _⊎_, inl, inr, ⊎-elim, dite}
-use mathlib.Core.Bool.{Bool, true, false, cond, _&&_, _||_, false≢true}
+use mathlib.Core.Bool.{Bool, true, false, cond, _&&_, _||_}
 use mathlib.Core.List.{List, [], _∷_, _++_}
 use Prim.Native.Nat.{ℕ, zero, suc, _+_, _-_, _≤_, _<_}
 use native.Mathlib.Decide.{decLe, decLt}
 use native.Mathlib.Omega.{arith}
-use lib.Dec.{T, leb, leb→le, le→leb}
+use lib.Dec.{T, leb→le, le→leb}
 use borrow.Author.Tests.{le-ltb}
 use lib.ListN.{length, replicate}
-use lib.IntN.{ℤ, pos, negsuc, sucℤ, negℤ, natAbs, _+ℤ_, _-ℤ_, subℕ, +ℤ-negℤ-cancel, +ℤ-idr}
+use lib.IntN.{ℤ, pos, negsuc, _-ℤ_, +ℤ-negℤ-cancel}
 use Rattle.meaning.specs.Limit.{Rule, AnyHit, RowHit, AnyMiss, RowMiss, width}
 use Rattle.meaning.specs.Window.{around, window}
 use Rattle.meaning.specs.Holds.{hits, misses, Run, Holds}
-use Rattle.meaning.specs.Kept.{Always, Kept}
+use Rattle.meaning.specs.Kept.{Kept}
 use Rattle.meaning.specs.Test.{every, startsWith, hasRun, holdsTest, windowTest, keptTest}
 use Rattle.meaning.proofs.TwoKinds.{row-miss-hit}
-use Rattle.meaning.proofs.MissMore.{window-after, window-split, run-before, sucℤ-sub}
+use Rattle.meaning.proofs.MissMore.{window-after, run-before}
 
 pub and-T : (a b : Bool) → T (a && b) ↔ (T a × T b)
 and-T true b = (λ t. (tt, t), λ t. t .1)

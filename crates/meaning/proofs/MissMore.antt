@@ -3,17 +3,17 @@ use mathlib.Core.Path.{_≡_, refl, sym, ap, ap₂, _∙_, subst}
 use mathlib.Core.Logic.{_↔_, _≢_}
 use mathlib.Core.Bool.{Bool, true, false, false≢true}
 use mathlib.Core.List.{List, [], _∷_, _++_, append-assoc}
-use Prim.Native.Nat.{ℕ, zero, suc, _+_, _-_, _≤_, _<_}
+use Prim.Native.Nat.{ℕ, zero, suc, _+_, _-_, _≤_}
 use native.Mathlib.Nat.{zero-add, suc-add}
 use native.Mathlib.Decide.{decLe}
 use native.Mathlib.Omega.{arith}
 use lib.ListN.{length, getD, replicate, length-append, length-replicate, List·getD-eq-default, replicate-append-replicate}
 use lib.Seq.{getD-append-seam}
-use lib.IntN.{ℤ, pos, negsuc, sucℤ, negℤ, natAbs, _+ℤ_, _-ℤ_, +ℤ-idr, +ℤ-sucℤ, sucℤ-+ℤ, +ℤ-negℤ-cancel, -ℤ-+ℤ-cancel, ℤ-discrete}
-use Rattle.meaning.specs.Limit.{Rule, AnyHit, RowHit, width}
+use lib.IntN.{ℤ, pos, negsuc, sucℤ, natAbs, _+ℤ_, _-ℤ_, +ℤ-idr, +ℤ-sucℤ, sucℤ-+ℤ, +ℤ-negℤ-cancel, -ℤ-+ℤ-cancel, ℤ-discrete}
+use Rattle.meaning.specs.Limit.{AnyHit, RowHit}
 use Rattle.meaning.specs.Window.{around, window, recent}
-use Rattle.meaning.specs.Holds.{hits, Run, Holds}
-use Rattle.meaning.specs.Kept.{Always, Kept}
+use Rattle.meaning.specs.Holds.{hits, Run}
+use Rattle.meaning.specs.Kept.{Kept}
 
 pub sucℤ-sub : (i : ℤ) (n : ℕ) → sucℤ (i -ℤ pos (suc n)) ≡ i -ℤ pos n
 sucℤ-sub i zero = sym (+ℤ-sucℤ i (negsuc zero))

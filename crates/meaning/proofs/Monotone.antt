@@ -1,10 +1,10 @@
 -- Turning misses into hits keeps what holds. Assumes nothing.
 use mathlib.Core.Path.{_≡_, refl, sym, ap, _∙_, subst}
-use mathlib.Core.Bool.{Bool, true, false, false≢true, true≢false}
+use mathlib.Core.Bool.{Bool, true, false, false≢true}
 use mathlib.Core.List.{List, [], _∷_, _++_}
 use Prim.Native.Nat.{ℕ, zero, suc, _≤_}
 use native.Mathlib.Omega.{arith}
-use lib.ListN.{length, getD, replicate}
+use lib.ListN.{length, replicate}
 use lib.IntN.{ℤ, pos, negsuc, sucℤ}
 use Rattle.meaning.specs.Limit.{Rule, AnyHit, RowHit, AnyMiss, RowMiss, width}
 use Rattle.meaning.specs.Window.{around, window}

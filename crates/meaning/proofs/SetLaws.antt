@@ -1,11 +1,10 @@
 -- The laws of kept, said of a whole set: empty, hits, parts. Each follows from the same law of one limit. Assumes nothing.
 use mathlib.Core.Path.{_≡_, refl, sym, ap, _∙_, subst}
-use mathlib.Core.Logic.{_↔_}
 use mathlib.Core.Bool.{Bool, true, false, true≢false}
 use mathlib.Core.List.{List, [], _∷_, _++_}
-use Prim.Native.Nat.{ℕ, zero, suc, _≤_, _<_}
+use Prim.Native.Nat.{ℕ, zero, suc}
 use native.Mathlib.Omega.{arith}
-use lib.ListN.{length, getD, take, drop, replicate, take-append-drop}
+use lib.ListN.{take, drop, replicate, take-append-drop}
 use lib.IntN.{ℤ, pos, negsuc, sucℤ, _+ℤ_, +ℤ-idl, +ℤ-sucℤ, sucℤ-+ℤ}
 use Rattle.meaning.specs.declared.LimitSet.{LimitSet}
 use Rattle.meaning.specs.Limit.{Rule, AnyHit, RowHit, AnyMiss, RowMiss, RuleAllowed, width}
@@ -14,7 +13,7 @@ use Rattle.meaning.specs.Holds.{Holds, misses}
 use Rattle.meaning.specs.Kept.{Kept}
 use Rattle.meaning.specs.Sets.{SetAllowed, KeptBy, ruleAt}
 use Rattle.meaning.proofs.Monotone.{Up}
-use Rattle.meaning.proofs.TwoWay.{kept-of, kept-part, kept-prefix, kept-hit}
+use Rattle.meaning.proofs.TwoWay.{kept-of, kept-part, kept-hit}
 use Rattle.meaning.proofs.MissMore.{hits-replicate, run-hits}
 
 pub window-empty : (i : ℤ) (k : ℕ) → window (around []) i k ≡ replicate k true

@@ -1,11 +1,11 @@
 -- A pattern is kept if and only if it occurs in an endless sequence that always holds; parts of kept patterns are kept. Assumes nothing.
 use mathlib.Core.Path.{_≡_, refl, sym, ap, _∙_, subst, fun-ext}
 use mathlib.Core.Logic.{_↔_}
-use mathlib.Core.Bool.{Bool, true, false}
+use mathlib.Core.Bool.{Bool, true}
 use mathlib.Core.List.{List, [], _∷_, _++_}
-use Prim.Native.Nat.{ℕ, zero, suc, _+_, _≤_, _<_}
+use Prim.Native.Nat.{ℕ, zero, suc, _+_, _<_}
 use native.Mathlib.Omega.{arith}
-use lib.ListN.{length, getD, replicate, drop, drop-of-length-le, length-append}
+use lib.ListN.{length, getD, drop, drop-of-length-le}
 use lib.Seq.{drop-cons, getD-append-add}
 use lib.IntN.{ℤ, pos, negsuc, sucℤ, _+ℤ_, +ℤ-idr, +ℤ-sucℤ, sucℤ-+ℤ}
 use Rattle.meaning.specs.Limit.{Rule, width}

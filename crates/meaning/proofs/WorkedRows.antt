@@ -1,9 +1,8 @@
 -- The rows of 01's "Patterns to try" that are marked P and speak of patterns, as one list under one claim. Each row is decided by a test that is shown to agree with the definitions, and the checker computes the tests. Assumes nothing.
-use mathlib.Core.Path.{_≡_, refl, sym, ap, _∙_, subst}
 use mathlib.Core.Logic.{dite, ⊎-elim}
 use mathlib.Core.Bool.{Bool, true, false, not, _&&_, _||_}
 use mathlib.Core.List.{List, [], _∷_, _++_}
-use Prim.Native.Nat.{ℕ, zero, suc, _≤_, _<_}
+use Prim.Native.Nat.{ℕ, zero, suc}
 use native.Mathlib.Decide.{decLt}
 use native.Mathlib.Omega.{arith}
 use lib.Dec.{T, T-not, leb, ltb, leb→le, ltb→lt}
@@ -15,7 +14,7 @@ use Rattle.meaning.specs.declared.LimitSet.{LimitSet}
 use Rattle.meaning.specs.Sets.{zeroLimit, ruleAt, KeptBy, LostAt, Panic}
 use Rattle.meaning.specs.Covers.{Between, FirstBetween}
 use Rattle.meaning.specs.Test.{every, keptTest, keptByTest}
-use Rattle.meaning.proofs.Decide.{and-T, or-case, T-of, every-at, kept-iff}
+use Rattle.meaning.proofs.Decide.{and-T, or-case, every-at, kept-iff}
 use Rattle.meaning.proofs.Search.{kept-by-iff}
 
 pub data Row : Type 0 where

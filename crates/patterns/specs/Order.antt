@@ -1,6 +1,5 @@
 -- Which of two patterns comes first: "shorter patterns first, and among equal lengths a miss before a hit at the first difference."
 use mathlib.Core.Path.{_≡_}
-use mathlib.Core.Logic.{_⊎_}
 use mathlib.Core.Bool.{Bool, true, false}
 use mathlib.Core.List.{List, _∷_, _++_}
 use Prim.Native.Nat.{_<_}

@@ -1,9 +1,8 @@
 -- The verdict's promise allows one result: a refusal is the row that holds, kept and lost exclude each other, and a pattern is lost at one job by one limit. Assumes nothing.
-use mathlib.Core.Path.{_≡_, refl, sym, ap, ap₂, _∙_}
+use mathlib.Core.Path.{_≡_, refl, sym, ap₂, _∙_}
 use mathlib.Core.Bool.{Bool}
 use mathlib.Core.List.{List}
 use Prim.Native.Nat.{ℕ}
-use Rattle.layout.specs.Refusal.{passed, refused}
 use Rattle.layout.proofs.Rows.{passed-not-refused}
 use Rattle.meaning.specs.declared.LimitSet.{LimitSet}
 use Rattle.meaning.proofs.Unique.{kept-not-lost, lost-job, lost-limit}

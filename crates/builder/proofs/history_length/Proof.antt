@@ -1,13 +1,12 @@
 -- `builder::history_length`: the limits passed ask for no more than the length so far. Assumes nothing.
-use mathlib.Core.Path.{_≡_}
 use mathlib.Core.Logic.{⊎-elim}
 use Prim.Native.Nat.{ℕ, suc, _≤_, _<_, _-_}
 use native.Mathlib.Omega.{arith}
 use borrow.Author.Count.{below-more}
 use borrow.Author.Needs.{needs}
 use Rattle.meaning.specs.Longest.{longest}
-use Rattle.meaning.specs.Limit.{ruleOf, width}
-use Rattle.meaning.specs.Sets.{limitAt, ruleAt}
+use Rattle.meaning.specs.Limit.{width}
+use Rattle.meaning.specs.Sets.{ruleAt}
 use Rattle.meaning.proofs.Witness.{width-allowed}
 use Rattle.builder.proofs.Reaching.{set-narrower}
 use Rattle.builder.proofs.history_length.Statement.{statement}

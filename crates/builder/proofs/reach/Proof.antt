@@ -1,12 +1,11 @@
 -- `builder::reach`: one less than the window, by the kind. Assumes nothing.
 use mathlib.Core.Path.{_≡_, sym, ap, _∙_}
-use Prim.Native.Nat.{ℕ, zero, suc, _+_, _-_, _≤_}
+use Prim.Native.Nat.{ℕ, zero, suc, _≤_}
 use native.Mathlib.Numerals.{add-one}
 use native.Mathlib.Omega.{arith}
 use borrow.Author.Needs.{needs}
-use Rattle.meaning.specs.declared.Limit.{Limit}
 use Rattle.meaning.specs.Longest.{longest}
-use Rattle.meaning.specs.Limit.{Allowed, RuleAllowed, ruleFrom, ruleOf, width}
+use Rattle.meaning.specs.Limit.{ruleFrom, width}
 use Rattle.history.proofs.Blocking.{allowed-numbers}
 use Rattle.builder.proofs.reach.Statement.{statement}
 use Rattle.builder.proofs.reach.Tie as tie

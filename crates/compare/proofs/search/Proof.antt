@@ -1,5 +1,5 @@
 -- `compare::search`: the histories are scanned block by block, and none in an earlier block splits the sets. Assumes nothing.
-use mathlib.Core.Path.{_≡_, refl, sym, subst}
+use mathlib.Core.Path.{refl, sym, subst}
 use mathlib.Core.Bool.{false}
 use mathlib.Core.List.{[], _∷_, _++_}
 use Prim.Native.Nat.{_≤_, _-_}

@@ -1,5 +1,5 @@
 -- `compare::with_miss`: the outcomes not yet written are those left in the history. Assumes nothing.
-use mathlib.Core.Path.{_≡_, subst, sym}
+use mathlib.Core.Path.{_≡_, subst}
 use Prim.Native.Nat.{_≤_, _-_, suc}
 use native.Mathlib.Omega.{arith}
 use borrow.Author.Needs.{needs}

@@ -1,7 +1,6 @@
 -- `history::push`: a shift and an or are a sum, and a mask of ones is a remainder. Assumes nothing.
 use mathlib.Core.Path.{_≡_, ap, _∙_}
-use mathlib.Core.Bool.{Bool, true, false}
-use Prim.Native.Nat.{ℕ, _+_, _-_, _*_, _%_, _^_, _<_}
+use Prim.Native.Nat.{_+_, _-_, _*_, _%_, _^_}
 use native.Mathlib.Omega.{arith}
 use lib.Bits.{bitAnd, bitOr, or-shifted, and-mask, and-le-r}
 use borrow.Author.Needs.{needs}

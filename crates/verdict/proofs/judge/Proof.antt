@@ -1,10 +1,10 @@
 -- `verdict::judge`: each refusal is the first row that holds, and what is left is what `judge_outcomes` ensures. Assumes nothing.
-use mathlib.Core.Path.{_≡_, refl, sym, ap, ap₂, _∙_, subst}
+use mathlib.Core.Path.{_≡_, refl, sym, ap₂, _∙_, subst}
 use mathlib.Core.List.{List}
 use Prim.Native.Nat.{ℕ}
 use borrow.Author.Needs.{needs}
 use borrow.Author.Tests.{lt-ltb, le-ltb}
-use Rattle.layout.specs.Refusal.{Tested, passed, refused, first}
+use Rattle.layout.specs.Refusal.{Tested, first}
 use Rattle.layout.proofs.Rows.{and-then, first-append}
 use Rattle.patterns.specs.Outcome.{outcomes, outcomeRows}
 use Rattle.meaning.specs.Longest.{longest}

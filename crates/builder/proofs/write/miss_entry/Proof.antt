@@ -1,13 +1,13 @@
 -- `builder::write::miss_entry`: the mark says whether a miss is allowed, and `number_of` where it leads. Assumes nothing.
 use mathlib.Core.Path.{_≡_, sym, ap, _∙_}
-use mathlib.Core.Bool.{Bool, true, false, cond}
+use mathlib.Core.Bool.{Bool, false, cond}
 use mathlib.Core.List.{List}
 use Prim.Native.Nat.{ℕ, _-_, _*_, _%_}
 use native.Mathlib.Nat.{add-zero, mod-lt}
 use native.Mathlib.Omega.{arith}
 use borrow.Author.Needs.{needs}
 use borrow.Author.Tests.{lt-leb, le-leb}
-use Rattle.classes.specs.Area.{classAt, mayAt}
+use Rattle.classes.specs.Area.{classAt}
 use Rattle.numbering.specs.Numbered.{numberAt}
 use Rattle.table.specs.Bytes.{noMiss}
 use Rattle.builder.specs.Rows.{numberNext}

@@ -1,5 +1,5 @@
 -- `builder::write::write_table`: the head, and then the rows. Assumes nothing.
-use mathlib.Core.Path.{_≡_, ap, _∙_}
+use mathlib.Core.Path.{ap, _∙_}
 use mathlib.Core.List.{_++_}
 use Prim.Native.Nat.{_*_}
 use borrow.Author.Needs.{needs}
