@@ -2,12 +2,9 @@
 use mathlib.Core.Path.{_≡_, refl, sym, ap, ap₂, _∙_, subst}
 use mathlib.Core.Logic.{_↔_}
 use mathlib.Core.Option.{Option, none, some}
-use mathlib.Core.Bool.{Bool, true, false, cond}
+use mathlib.Core.Bool.{Bool, true}
 use mathlib.Core.List.{List, [], _∷_, _++_}
-use Prim.Native.Nat.{ℕ, _+_, _-_, _*_, _^_, _≤_, _<_}
-use native.Mathlib.Nat.{mod-lt}
-use native.Mathlib.Omega.{arith}
-use lib.Pow.{pow-pos}
+use Prim.Native.Nat.{ℕ, _-_, _≤_, _<_}
 use lib.ListN.{take, drop}
 use lib.Seq.{take-at}
 use Rattle.layout.specs.Refusal.{Tested, passed, refused, first}
@@ -20,11 +17,9 @@ use Rattle.meaning.specs.declared.LimitSet.{LimitSet}
 use Rattle.meaning.specs.Longest.{longest}
 use Rattle.meaning.specs.Sets.{SetAllowed, KeptBy}
 use Rattle.meaning.proofs.SetLaws.{kept-by-hit}
-use Rattle.patterns.specs.Outcome.{bit}
-use Rattle.history.specs.History.{pushed}
-use Rattle.history.specs.MayMiss.{mayMiss}
-use Rattle.history.specs.Machine.{historyNext, historyMachine}
+use Rattle.history.specs.Machine.{historyMachine}
 use Rattle.history.proofs.Walked.{kept-walked}
+use Rattle.classes.proofs.Converge.{history-well-made}
 use Rattle.sets.specs.Bytes.{setOf}
 use Rattle.sets.specs.Rows.{setRows}
 use Rattle.sets.proofs.Accepted.{accepted-allowed}
@@ -43,20 +38,6 @@ one-walk m n w o s l (x ∷ p) = ap (λ z. onward z (λ t. walk m t p)) (o .move
     go : (r : Option ℕ) → n .next s x ≡ r → ((t : ℕ) → t < m .states → walk m t p ≡ walk n t p) → onward r (λ t. walk m t p) ≡ onward r (λ t. walk n t p)
     go none e ih = refl
     go (some t) e ih = ih t (w .next-below s t x l (o .moves s x l ∙ e))
-
-history-well-made : (s : LimitSet) (m : ℕ) → WellMade (historyMachine s m)
-history-well-made s m = record { start-below = omega (arith, pow-pos m); next-below = below }
-  where
-    pushed-below : (h : ℕ) (o : Bool) → pushed m h o < 2 ^ m
-    pushed-below h o = mod-lt (h * 2 + bit o) (pow-pos m)
-
-    missed : (h t : ℕ) (b : Bool) → cond b (some (pushed m h false)) none ≡ some t → t < 2 ^ m
-    missed h t true e = let f : pushed m h false ≡ t = cc in subst (λ z. z < 2 ^ m) f (pushed-below h false)
-    missed h t false e = let z : _≡_ {A = ℕ} 0 1 = cc in absurd (omega arith)
-
-    below : (h t : ℕ) (o : Bool) → h < 2 ^ m → historyNext s m h o ≡ some t → t < 2 ^ m
-    below h t true l e = let f : pushed m h true ≡ t = cc in subst (λ z. z < 2 ^ m) f (pushed-below h true)
-    below h t false l e = missed h t (mayMiss s h) e
 
 module _ (s : LimitSet) (ok : SetAllowed longest s) (m : Machine) (canonical : Canonical m (KeptBy s)) where
   abbrev source : Machine

@@ -1,1 +1,6 @@
 pub mod BuiltTables
+pub mod Demand1
+pub mod Demand2
+pub mod Demand3
+pub mod SmallMachines
+pub mod WorkedRows

@@ -13,8 +13,9 @@ use Rattle.machines.specs.Canonical.{Canonical}
 use Rattle.machines.specs.Numbering.{place, FirstSeen, NumberedAtSight}
 use Rattle.meaning.specs.declared.LimitSet.{LimitSet}
 use Rattle.meaning.specs.Limit.{ruleFrom, RuleAllowed, Allowed}
-use Rattle.meaning.specs.Sets.{zeroLimit, limitAt, SetAllowed, KeptBy}
+use Rattle.meaning.specs.Sets.{limitAt, SetAllowed, KeptBy}
 use Rattle.meaning.proofs.WorkedRows as meaning
+use Rattle.meaning.proofs.WorkedRows.{alone, any-hit, row-hit, any-miss}
 use Rattle.history.specs.History.{newest}
 use Rattle.history.specs.MayMiss.{mayMiss}
 use Rattle.history.specs.Machine.{historyMachine}
@@ -35,19 +36,6 @@ Holds (table s b) = Canonical (machineOf b) (KeptBy s) × (bytesOf (machineOf b)
 abbrev pub All : List Claim → Type 0
 All [] = Unit {0}
 All (c ∷ claims) = Holds c × All claims
-
--- a set of one limit
-abbrev alone : (kind x k : ℕ) → LimitSet
-alone kind x k = record { count = 1; limits = record { kind = kind; x = x; k = k } ∷ replicate 7 zeroLimit }
-
-abbrev any-hit : ℕ → ℕ → LimitSet
-any-hit x k = alone 0 x k
-
-abbrev row-hit : ℕ → ℕ → LimitSet
-row-hit x k = alone 1 x k
-
-abbrev any-miss : ℕ → ℕ → LimitSet
-any-miss x k = alone 2 x k
 
 abbrev never : List ℕ
 never = 0x00 ∷ 0x00 ∷ 0x00 ∷ 0x07 ∷ 0x01 ∷ 0x00 ∷ 0x01 ∷ 0xFF ∷ 0xFF ∷ 0x00 ∷ 0x00 ∷ []

@@ -114,16 +114,16 @@ all-hold [] t = tt
 all-hold (r ∷ rows) t = let (h, hs) = and-T (test r) (tests rows) .0 t in (holds r h, all-hold rows hs)
 
 -- a set of one limit
-abbrev alone : (kind x k : ℕ) → LimitSet
+abbrev pub alone : (kind x k : ℕ) → LimitSet
 alone kind x k = record { count = 1; limits = record { kind = kind; x = x; k = k } ∷ replicate 7 zeroLimit }
 
-abbrev any-hit : ℕ → ℕ → LimitSet
+abbrev pub any-hit : ℕ → ℕ → LimitSet
 any-hit x k = alone 0 x k
 
-abbrev row-hit : ℕ → ℕ → LimitSet
+abbrev pub row-hit : ℕ → ℕ → LimitSet
 row-hit x k = alone 1 x k
 
-abbrev any-miss : ℕ → ℕ → LimitSet
+abbrev pub any-miss : ℕ → ℕ → LimitSet
 any-miss x k = alone 2 x k
 
 abbrev row-miss : ℕ → LimitSet
