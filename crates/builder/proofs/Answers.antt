@@ -73,14 +73,16 @@ module _ (longest : ℕ) (set work table : List ℕ) where
   refused-early : (n v : ℕ) → first (earlyRows longest set work) ≡ refused n v → BuiltAs longest set work work table table (Refused n v)
   refused-early n v e =
       let size = sizeOf (no-machine .states) in
-      let f = all size (refused n v) _ e refl in
-      (no-machine, record {
-        canonical = λ p. absurd (passed-not-refused (sym p ∙ e));
-        answer = sym f;
-        returned = sym (ap (λ z. lengthWhen z size) f);
-        work-after = subst (λ z. WorkAfter z work work) (sym e) refl;
-        table-after = sym (ap (λ z. tableWhen z no-machine table) f);
-      })
+      let f = all size (refused n v) _ e refl in (
+        no-machine,
+        record {
+          canonical = λ p. absurd (passed-not-refused (sym p ∙ e));
+          answer = sym f;
+          returned = sym (ap (λ z. lengthWhen z size) f);
+          work-after = subst (λ z. WorkAfter z work work) (sym e) refl;
+          table-after = sym (ap (λ z. tableWhen z no-machine table) f);
+        },
+      )
 
   pub refused-set : (n v : ℕ) → first (setRows longest set) ≡ refused n v → BuiltAs longest set work work table table (Refused n v)
   refused-set n v e = refused-early n v (early (refused n v) _ e refl)
@@ -93,11 +95,13 @@ module _ (longest : ℕ) (set work table : List ℕ) where
   built-table work′ table′ r e h (m, b) =
       let size = sizeOf (m .states) in
       let p : first (earlyRows longest set work) ≡ passed = early passed passed e (no-row 8 0 (length work) areaSize h) in
-      let f : first (buildRows longest set work table size) ≡ first (roomRow table size ∷ []) = all size passed _ p refl in
-      (m, record {
-        canonical = λ q. b .canonical;
-        answer = b .answer ∙ sym f;
-        returned = b .returned ∙ sym (ap (λ z. lengthWhen z size) f);
-        work-after = subst (λ z. WorkAfter z work work′) (sym p) (b .cleared);
-        table-after = b .table-after ∙ sym (ap (λ z. tableWhen z m table) f);
-      })
+      let f : first (buildRows longest set work table size) ≡ first (roomRow table size ∷ []) = all size passed _ p refl in (
+        m,
+        record {
+          canonical = λ q. b .canonical;
+          answer = b .answer ∙ sym f;
+          returned = b .returned ∙ sym (ap (λ z. lengthWhen z size) f);
+          work-after = subst (λ z. WorkAfter z work work′) (sym p) (b .cleared);
+          table-after = b .table-after ∙ sym (ap (λ z. tableWhen z m table) f);
+        },
+      )

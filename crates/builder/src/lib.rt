@@ -1,6 +1,7 @@
 // The table of a set of limits: the one smallest machine that walks exactly the patterns that the set keeps.
 // Refuses by 1 to 7, then by 8 for a work area that is too short and by 9 for a table buffer that is.
 mod write;
+
 ghost use mathlib.Core.Path.{_≡_};
 ghost use Prim.Native.Nat.{_+_, _-_, _≤_};
 ghost use lib.ListN.{length};
@@ -88,7 +89,10 @@ fn build_table(set: LimitSet, work: &mut [u16], table: &mut [u8]) -> BuildAnswer
     let size = 7 + 4 * count;
     if table.len() < size {
         clear(work);
-        return BuildAnswer::Refused { number: 9, at: size };
+        return BuildAnswer::Refused {
+            number: 9,
+            at: size,
+        };
     }
     write::write_table(work, n, count, table);
     clear(work);

@@ -29,8 +29,7 @@ filled-start h n l =
 pub filled-turn : (h n : ℕ) (places : List ℕ) (rest i : ℕ) → Filled h n places rest (suc i) → Filled h n (set places i (rest % 2)) (rest / 2) i
 filled-turn h n places rest i (t, e, f) =
     let o = eqb (rest % 2) 1 in
-    let w = map bit t ++ replicate (16 - n) 0 in
-    (
+    let w = map bit t ++ replicate (16 - n) 0 in (
       o ∷ t,
       e ∙ ap (λ z. z ++ t) (outcomes-suc i rest) ∙ append-assoc (outcomesOf i (rest / 2)) (o ∷ []) t,
       ap (λ z. set z i (rest % 2)) (f ∙ ap (λ z. z ++ w) (replicate-last i) ∙ append-assoc (replicate i 0) (0 ∷ []) w)

@@ -114,8 +114,7 @@ module _ (set work work′ table table′ : List ℕ) (size : ℕ) (built : Buil
   -- The table walked from its first state walks exactly what the set keeps.
   pub table-walks-kept : (p : List Bool) → Can (machineOf b) 0 p ↔ KeptBy (setOf set) p
   table-walks-kept p =
-      let c = built-canonical set work work′ table table′ size built in
-      (
+      let c = built-canonical set work work′ table table′ size built in (
         λ (t, e). c .exact p .0 (t, sym (walk-alike p) ∙ e),
         λ k. let (t, e) = c .exact p .1 k in (t, walk-alike p ∙ e),
       )
@@ -123,8 +122,7 @@ module _ (set work work′ table table′ : List ℕ) (size : ℕ) (built : Buil
   -- A guard started there and told any bytes says panic exactly when the outcomes so far are kept and one more miss would make them not kept.
   pub guard-panics : (told : List ℕ) → (askedOf b (toldAll b fresh told) .answer ≡ ask.Panic) ↔ Panic (setOf set) (heard told)
   guard-panics told =
-      let by = answers-by-walk b (built-checked set work work′ table table′ size built) told in
-      (
+      let by = answers-by-walk b (built-checked set work work′ table table′ size built) told in (
         λ e. let (c, n) = by .panic .0 e in record {
           kept = table-walks-kept (heard told) .0 c;
           miss-loses = λ k. n (table-walks-kept (heard told ++ false ∷ []) .1 k);
@@ -134,8 +132,7 @@ module _ (set work work′ table table′ : List ℕ) (size : ℕ) (built : Buil
 
   pub guard-loses : (told : List ℕ) → (askedOf b (toldAll b fresh told) .answer ≡ ask.Lost) ↔ (KeptBy (setOf set) (heard told) → ⊥)
   guard-loses told =
-      let by = answers-by-walk b (built-checked set work work′ table table′ size built) told in
-      (
+      let by = answers-by-walk b (built-checked set work work′ table table′ size built) told in (
         λ e k. by .lost .0 e (table-walks-kept (heard told) .1 k),
         λ n. by .lost .1 (λ c. n (table-walks-kept (heard told) .0 c)),
       )

@@ -1,5 +1,4 @@
 -- Each answer as a flat record: "Every answer begins with refused (0, or 01's number) and at (what 01 returns beside that number, else 0)."
-use Prim.Native.Nat.{ℕ}
 use Rattle.sets.specs.declared.SetAnswer.{SetAnswer}
 use Rattle.sets.specs.declared.SetAnswer.the-variants as set
 use Rattle.sets.specs.declared.SetRead.{SetRead}
@@ -10,9 +9,28 @@ use Rattle.compare.specs.declared.CompareAnswer.the-variants as comparison
 use Rattle.compare.specs.declared.Pattern.{Pattern}
 use Rattle.compare.specs.declared.Compared.{Compared}
 use Rattle.meaning.specs.declared.LimitSet.{LimitSet}
+use Rattle.builder.specs.declared.BuildAnswer.{BuildAnswer}
+use Rattle.builder.specs.declared.BuildAnswer.the-variants as built
+use Rattle.table.specs.declared.TableAnswer.{TableAnswer}
+use Rattle.table.specs.declared.TableAnswer.the-variants as checked
+use Rattle.guard.specs.declared.Guard.{Guard}
+use Rattle.guard.specs.declared.StartAnswer.{StartAnswer}
+use Rattle.guard.specs.declared.StartAnswer.the-variants as start
+use Rattle.guard.specs.declared.Started.{Started}
+use Rattle.guard.specs.declared.AskAnswer.{AskAnswer}
+use Rattle.guard.specs.declared.AskAnswer.the-variants as ask
+use Rattle.guard.specs.declared.Asked.{Asked}
+use Rattle.guard.specs.declared.TellAnswer.{TellAnswer}
+use Rattle.guard.specs.declared.TellAnswer.the-variants as tell
+use Rattle.guard.specs.declared.Told.{Told}
 use Rattle.floelinnet.specs.declared.FloeSetRead.{FloeSetRead}
 use Rattle.floelinnet.specs.declared.FloeVerdict.{FloeVerdict}
 use Rattle.floelinnet.specs.declared.FloeComparison.{FloeComparison}
+use Rattle.floelinnet.specs.declared.FloeBuilt.{FloeBuilt}
+use Rattle.floelinnet.specs.declared.FloeChecked.{FloeChecked}
+use Rattle.floelinnet.specs.declared.FloeStarted.{FloeStarted}
+use Rattle.floelinnet.specs.declared.FloeAsked.{FloeAsked}
+use Rattle.floelinnet.specs.declared.FloeTold.{FloeTold}
 
 abbrev pub flatSetOf : SetAnswer → LimitSet → FloeSetRead
 flatSetOf set.Accepted s = record { refused = 0; at = 0; set = s }
@@ -33,3 +51,35 @@ flatCompared (comparison.Refused which number at) p = record { refused = number;
 
 abbrev pub flatComparison : Compared → FloeComparison
 flatComparison a = flatCompared (a .answer) (a .pattern)
+
+abbrev pub flatBuilt : BuildAnswer → FloeBuilt
+flatBuilt (built.Built length) = record { refused = 0; at = 0; length = length }
+flatBuilt (built.Refused number at) = record { refused = number; at = at; length = 0 }
+
+abbrev pub flatChecked : TableAnswer → FloeChecked
+flatChecked (checked.States states) = record { refused = 0; at = 0; states = states }
+flatChecked (checked.Refused number at) = record { refused = number; at = at; states = 0 }
+
+abbrev pub flatStartedOf : StartAnswer → Guard → FloeStarted
+flatStartedOf start.Started g = record { refused = 0; at = 0; guard = g }
+flatStartedOf (start.Refused number at) g = record { refused = number; at = at; guard = g }
+
+abbrev pub flatStarted : Started → FloeStarted
+flatStarted a = flatStartedOf (a .answer) (a .guard)
+
+-- "0 normal, 1 panic, 2 lost"; 0 on a refusal
+abbrev pub flatAskedOf : AskAnswer → Guard → FloeAsked
+flatAskedOf ask.Normal g = record { refused = 0; at = 0; answer = 0; guard = g }
+flatAskedOf ask.Panic g = record { refused = 0; at = 0; answer = 1; guard = g }
+flatAskedOf ask.Lost g = record { refused = 0; at = 0; answer = 2; guard = g }
+flatAskedOf (ask.Refused number at) g = record { refused = number; at = at; answer = 0; guard = g }
+
+abbrev pub flatAsked : Asked → FloeAsked
+flatAsked a = flatAskedOf (a .answer) (a .guard)
+
+abbrev pub flatToldOf : TellAnswer → Guard → FloeTold
+flatToldOf tell.Told g = record { refused = 0; at = 0; guard = g }
+flatToldOf (tell.Refused number at) g = record { refused = number; at = at; guard = g }
+
+abbrev pub flatTold : Told → FloeTold
+flatTold a = flatToldOf (a .answer) (a .guard)

@@ -8,7 +8,16 @@ ghost use Rattle.verdict.specs.declared.Judgement.{Judgement};
 ghost use Rattle.verdict.specs.Judge.{JudgedAs};
 ghost use Rattle.compare.specs.declared.Compared.{Compared};
 ghost use Rattle.compare.specs.Compare.{ComparedAs};
-ghost use Rattle.floelinnet.specs.Flat.{flatSet, flatVerdict, flatComparison};
+ghost use Rattle.builder.specs.declared.BuildAnswer.{BuildAnswer};
+ghost use Rattle.builder.specs.Build.{BuiltAs};
+ghost use Rattle.table.specs.declared.TableAnswer.{TableAnswer};
+ghost use Rattle.table.specs.Check.{CheckedAs};
+ghost use Rattle.guard.specs.declared.Started.{Started};
+ghost use Rattle.guard.specs.declared.Asked.{Asked};
+ghost use Rattle.guard.specs.declared.Told.{Told};
+ghost use Rattle.guard.specs.Guard.{startedOf, askedOf, toldOf};
+ghost use Rattle.floelinnet.specs.Flat.{flatSet, flatVerdict, flatComparison, flatBuilt, flatChecked, flatStarted, flatAsked, flatTold};
+use guard::Guard;
 use meaning::LimitSet;
 
 #[repr(C)]
@@ -36,6 +45,43 @@ pub struct FloeComparison {
     pub covers: u64,
     pub length: u64,
     pub pattern: [u8; 16],
+}
+
+#[repr(C)]
+pub struct FloeBuilt {
+    pub refused: u64,
+    pub at: u64,
+    pub length: u64,
+}
+
+#[repr(C)]
+pub struct FloeChecked {
+    pub refused: u64,
+    pub at: u64,
+    pub states: u64,
+}
+
+#[repr(C)]
+pub struct FloeStarted {
+    pub refused: u64,
+    pub at: u64,
+    pub guard: Guard,
+}
+
+// answer: 0 normal, 1 panic, 2 lost; 0 on a refusal.
+#[repr(C)]
+pub struct FloeAsked {
+    pub refused: u64,
+    pub at: u64,
+    pub answer: u64,
+    pub guard: Guard,
+}
+
+#[repr(C)]
+pub struct FloeTold {
+    pub refused: u64,
+    pub at: u64,
+    pub guard: Guard,
 }
 
 #[no_mangle]
@@ -117,6 +163,119 @@ pub extern "C" fn floe_compare(first: &[u8], second: &[u8]) -> FloeComparison
             covers: 0,
             length,
             pattern,
+        },
+    }
+}
+
+#[no_mangle]
+pub extern "C" fn floe_build(set: &[u8], work: &mut [u16], table: &mut [u8]) -> FloeBuilt
+    ensures { λ r. ⌜ ((a : BuildAnswer) × BuiltAs longest (now (set .entry)) (now (work .entry)) (now (work .exit)) (now (table .entry)) (now (table .exit)) a × (r ≡ flatBuilt a)) ⌝ }
+{
+    match builder::build(set, work, table) {
+        builder::BuildAnswer::Built(length) => FloeBuilt {
+            refused: 0,
+            at: 0,
+            length: length as u64,
+        },
+        builder::BuildAnswer::Refused { number, at } => FloeBuilt {
+            refused: number as u64,
+            at: at as u64,
+            length: 0,
+        },
+    }
+}
+
+#[no_mangle]
+pub extern "C" fn floe_check_table(table: &[u8]) -> FloeChecked
+    ensures { λ r. ⌜ ((a : TableAnswer) × CheckedAs (now (table .entry)) a × (r ≡ flatChecked a)) ⌝ }
+{
+    match table::check_table(table) {
+        table::TableAnswer::States(states) => FloeChecked {
+            refused: 0,
+            at: 0,
+            states: states as u64,
+        },
+        table::TableAnswer::Refused { number, at } => FloeChecked {
+            refused: number as u64,
+            at: at as u64,
+            states: 0,
+        },
+    }
+}
+
+#[no_mangle]
+pub extern "C" fn floe_guard_start(table: &[u8]) -> FloeStarted
+    ensures { λ r. ⌜ ((a : Started) × (a ≡ startedOf (now (table .entry))) × (r ≡ flatStarted a)) ⌝ }
+{
+    let started = Guard::start(table);
+    let answer = started.answer;
+    let fresh = started.guard;
+    match answer {
+        guard::StartAnswer::Started => FloeStarted {
+            refused: 0,
+            at: 0,
+            guard: fresh,
+        },
+        guard::StartAnswer::Refused { number, at } => FloeStarted {
+            refused: number as u64,
+            at: at as u64,
+            guard: fresh,
+        },
+    }
+}
+
+#[no_mangle]
+pub extern "C" fn floe_guard_ask(guard: Guard, table: &[u8]) -> FloeAsked
+    ensures { λ r. ⌜ ((a : Asked) × (a ≡ askedOf (now (table .entry)) guard) × (r ≡ flatAsked a)) ⌝ }
+{
+    let asked = guard.ask(table);
+    let answer = asked.answer;
+    let same = asked.guard;
+    match answer {
+        guard::AskAnswer::Normal => FloeAsked {
+            refused: 0,
+            at: 0,
+            answer: 0,
+            guard: same,
+        },
+        guard::AskAnswer::Panic => FloeAsked {
+            refused: 0,
+            at: 0,
+            answer: 1,
+            guard: same,
+        },
+        guard::AskAnswer::Lost => FloeAsked {
+            refused: 0,
+            at: 0,
+            answer: 2,
+            guard: same,
+        },
+        guard::AskAnswer::Refused { number, at } => FloeAsked {
+            refused: number as u64,
+            at: at as u64,
+            answer: 0,
+            guard: same,
+        },
+    }
+}
+
+#[no_mangle]
+pub extern "C" fn floe_guard_tell(guard: Guard, table: &[u8], outcome: u8) -> FloeTold
+    ensures { λ r. ⌜ ((a : Told) × (a ≡ toldOf (now (table .entry)) guard outcome) × (r ≡ flatTold a)) ⌝ }
+{
+    let told = guard.tell(table, outcome);
+    let answer = told.answer;
+    let after = told.guard;
+    match answer {
+        guard::TellAnswer::Told => FloeTold {
+            refused: 0,
+            at: 0,
+            guard: after,
+        },
+        guard::TellAnswer::Refused { number, at } => FloeTold {
+            refused: number as u64,
+            at: at as u64,
+            guard: after,
         },
     }
 }

@@ -33,9 +33,11 @@ returns c =
     let s = h .before .before .before .before .before .before in
     let n = h .before .before .histories .result in
     let w = h .number-states .last .1 .1 .1 .0 in
-    let m = tableMachine n w (h .number-states .result) in
-    (m, short-table (s .args .set) (s .args .work .now) (k .clear .last .0) (s .args .table .now) m (h .number-states .ensures .canonical)
-    (clear-within (s .args .work .now) w (k .clear .last .0) (h .number-states .ensures .within) (k .clear .ensures)) (k .before .before .if1 .taken))
+    let m = tableMachine n w (h .number-states .result) in (
+      m,
+      short-table (s .args .set) (s .args .work .now) (k .clear .last .0) (s .args .table .now) m (h .number-states .ensures .canonical)
+          (clear-within (s .args .work .now) w (k .clear .last .0) (h .number-states .ensures .within) (k .clear .ensures)) (k .before .before .if1 .taken),
+    )
 
 write-table-requires : tie.Need-write-table-requires
 write-table-requires c κs = search needs
@@ -58,9 +60,11 @@ returns-2 c =
     let s = h .before .before .before .before .before .before in
     let n = h .before .before .histories .result in
     let w = h .number-states .last .1 .1 .1 .0 in
-    let m = tableMachine n w (h .number-states .result) in
-    (m, whole-table (s .args .set) (s .args .work .now) (k .clear2 .last .0) (s .args .table .now) m (h .number-states .ensures .canonical)
-    (clear-within (s .args .work .now) w (k .clear2 .last .0) (h .number-states .ensures .within) (k .clear2 .ensures)) _ (i .if1 .left) (t .write-table .ensures))
+    let m = tableMachine n w (h .number-states .result) in (
+      m,
+      whole-table (s .args .set) (s .args .work .now) (k .clear2 .last .0) (s .args .table .now) m (h .number-states .ensures .canonical)
+          (clear-within (s .args .work .now) w (k .clear2 .last .0) (h .number-states .ensures .within) (k .clear2 .ensures)) _ (i .if1 .left) (t .write-table .ensures),
+    )
 
 pub build-table-spec : {M : Type 1} → statement M
 build-table-spec =

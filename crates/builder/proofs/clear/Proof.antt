@@ -38,8 +38,7 @@ loop-again c =
     let l = c .before .loop in
     let w = l .work in
     let k = l .k in
-    let room = c .before .before .pre in
-    (
+    let room = c .before .before .pre in (
       omega arith,
       length-set w k 0 ∙ l .inv .1,
       λ j h. dite (ℕ-discrete j k) (λ e. ap (λ z. getD (set w k 0) z 0) e ∙ getD-set-same w k 0 0 (omega (arith, l .inv .1)))

@@ -62,8 +62,7 @@ search-requires c κs =
     let u = c .before .before in
     let t = u .before in
     let r = t .before .before in
-    let s = r .before .before .before .args in
-    (
+    let s = r .before .before .before .args in (
       accepted-set-allowed longest (s .first .now) (r .read-set .result) (r .read-set .ensures) (t .enum-told .given .1),
       accepted-set-allowed longest (s .second .now) (u .read-set2 .result) (u .read-set2 .ensures) (c .enum-told2 .given .1),
     )

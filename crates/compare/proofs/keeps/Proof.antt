@@ -35,8 +35,7 @@ may-miss-requires c κs = c .before .before .before .pre .0
 returns : tie.Need-returns Inv-loop μ-loop
 returns c =
     let s = c .before .before .before .before .before in
-    let l = c .before .before .before .before .loop in
-    (
+    let l = c .before .before .before .before .loop in (
       λ e. absurd (false≢true e),
       λ k. absurd (back-blocked (s .args .set) (longest - 2) (s .pre .0) (l .rest) (l .inv .0) (c .before .before .if1 .taken)
           (sym (c .before .may-miss .ensures) ∙ not-true _ (c .if2 .taken)) (l .inv .1 .0 k)),
@@ -48,8 +47,7 @@ loop-less c = search needs
 loop-again : tie.Need-loop-again Inv-loop μ-loop
 loop-again c =
     let s = c .before .before .before .before .before in
-    let l = c .before .before .before .before .loop in
-    (
+    let l = c .before .before .before .before .loop in (
       omega arith,
       Iff·trans (l .inv .1) (back-miss (s .args .set) (longest - 2) (s .pre .0) (l .rest) (l .inv .0) (c .before .before .if1 .taken)
           (sym (c .before .may-miss .ensures) ∙ not-false _ (c .if2 .left))),
@@ -61,8 +59,7 @@ loop-less-2 c = search needs
 loop-again-2 : tie.Need-loop-again-2 Inv-loop μ-loop
 loop-again-2 c =
     let s = c .before .before .before in
-    let l = c .before .before .loop in
-    (
+    let l = c .before .before .loop in (
       omega arith,
       Iff·trans (l .inv .1) (back-hit (s .args .set) (longest - 2) (s .pre .0) (l .rest) (l .inv .0) (c .if1 .left)),
     )

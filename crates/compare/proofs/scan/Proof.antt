@@ -43,8 +43,7 @@ loop-less c = search needs
 loop-again : tie.Need-loop-again Inv-loop μ-loop
 loop-again c =
     let a = c .before .before .before .before .args in
-    let l = c .before .before .before .loop in
-    (
+    let l = c .before .before .before .loop in (
       omega arith,
       omega arith,
       λ h from below. dite (decLt h (l .history)) (λ lt. l .inv .2 h from lt) (λ n.

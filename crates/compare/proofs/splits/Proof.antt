@@ -30,8 +30,7 @@ keeps-requires c κs = search needs
 returns-3 : tie.Need-returns-3
 returns-3 c =
     let two = c .before .before in
-    let one = two .before .before in
-    (
+    let one = two .before .before in (
       λ e. record {
         first-may = sym (one .may-miss .ensures) ∙ not-false _ (two .before .if1 .left);
         second-may-not = sym (two .may-miss2 .ensures) ∙ c .before .if2 .left;

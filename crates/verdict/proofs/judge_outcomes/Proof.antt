@@ -61,8 +61,7 @@ loop-again c =
     let l = c .before .before .before .before .loop in
     let t = c .before .before .before .loop-test .taken in
     let set = s .args .set in
-    let b = s .args .pattern .now in
-    (
+    let b = s .args .pattern .now in (
       omega arith,
       omega arith,
       c .push .ensures .1 (longest - 1) refl ∙ history-turn set b (l .i) t (l .inv .3) (longest - 1) (l .history) (s .pre) (l .inv .2),

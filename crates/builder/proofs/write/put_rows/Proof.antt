@@ -81,8 +81,7 @@ loop-again c =
     let m = tableMachine (s .args .n) w (s .args .count) in
     let x = h .before .miss-entry .ensures ∙ entry-miss (s .args .n) w (classOf w i) (mayAt w (classOf w i)) refl in
     let y = h .hit-entry .ensures in
-    let out = l .loop .out in
-    (
+    let out = l .loop .out in (
       omega arith,
       p .put-row .kept .0 ∙ l .loop .inv .1,
       p .put-row .ensures

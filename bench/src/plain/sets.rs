@@ -1,0 +1,60 @@
+//! A plain reader of a set.
+
+#[derive(Clone, Copy, Default)]
+pub struct Limit {
+    pub kind: u8,
+    pub x: u8,
+    pub k: u8,
+}
+
+#[derive(Clone, Copy, Default)]
+pub struct Set {
+    count: usize,
+    limits: [Limit; 8],
+}
+
+impl Set {
+    pub fn limits(&self) -> &[Limit] {
+        &self.limits[..self.count]
+    }
+}
+
+/// A number of refusal, and what is returned beside it.
+pub type Refusal = (u8, usize);
+
+#[inline(never)]
+pub fn read(bytes: &[u8]) -> Result<Set, Refusal> {
+    if bytes.len() < 6 {
+        return Err((1, 0));
+    }
+    let length = u32::from_be_bytes([bytes[0], bytes[1], bytes[2], bytes[3]]) as usize;
+    if length != bytes.len() - 4 {
+        return Err((1, 0));
+    }
+    if bytes[4] != 1 {
+        return Err((2, 0));
+    }
+    let count = usize::from(bytes[5]);
+    if count == 0 || count > 8 {
+        return Err((3, 0));
+    }
+    if length != 2 + 3 * count {
+        return Err((4, 0));
+    }
+    let mut limits = [Limit::default(); 8];
+    for (number, triple) in bytes[6..].chunks_exact(3).enumerate() {
+        let limit = Limit { kind: triple[0], x: triple[1], k: triple[2] };
+        let (row_miss, most) = (limit.kind == 3, if limit.kind == 3 { 11 } else { limit.k });
+        if limit.kind > 3 {
+            return Err((5, number));
+        }
+        if (row_miss && limit.k != 0) || (!row_miss && !(1..=12).contains(&limit.k)) {
+            return Err((6, number));
+        }
+        if limit.x > most {
+            return Err((7, number));
+        }
+        limits[number] = limit;
+    }
+    Ok(Set { count, limits })
+}

@@ -1,0 +1,93 @@
+//! Judging a million outcomes under eight limits of window 12. A pattern that is kept is gone through to its end.
+
+use std::hint::black_box;
+
+use floelinnet_tests::draw::Draw;
+use floelinnet_tests::floe;
+use floelinnet_tests::reference::limits::{allowed_limits, width, Limit};
+use floelinnet_tests::reference::sets::bytes;
+use floelinnet_tests::reference::table::states;
+
+use crate::clock::{side_by_side, use_up};
+use crate::figures::{words, Figure, Figures, Unit};
+use crate::plain;
+use crate::search::slowest;
+
+const OUTCOMES: usize = 1_000_000;
+
+/// A set, how rare a miss is among the outcomes where it may be, and some outcomes of that kind.
+struct Case {
+    limits: Vec<Limit>,
+    rarity: usize,
+    sample: Vec<u8>,
+}
+
+pub fn measure(figures: &mut Figures) {
+    let mixed: Vec<Limit> =
+        [(0, 3, 12), (1, 2, 12), (2, 8, 12), (3, 11, 0)].map(|(kind, x, k)| Limit { kind, x, k }).repeat(2);
+    figures.note(format!("mixed: {}", words(&mixed)));
+    figure(figures, "verdict, mixed", "all hits", &mixed, &vec![1; OUTCOMES]);
+    figure(figures, "verdict, mixed", "random, few misses: 1 in 20", &mixed, &kept(&mixed, OUTCOMES, 20));
+    figure(figures, "verdict, mixed", "random, a miss 1 in 2 times that it may be", &mixed, &kept(&mixed, OUTCOMES, 2));
+    let Case { limits, rarity, .. } = slowest_case();
+    figures.note(format!("slowest of a search for the verdict: {}", words(&limits)));
+    let input = match rarity {
+        1 => "a miss wherever it may be".to_owned(),
+        _ => format!("random, a miss 1 in {rarity} times that it may be"),
+    };
+    figure(figures, "verdict, slowest of a search", &input, &limits, &kept(&limits, OUTCOMES, rarity));
+}
+
+/// Each outcome is by chance one in `rarity` a miss, unless the set then wouldn't keep the pattern.
+fn kept(limits: &[Limit], outcomes: usize, rarity: usize) -> Vec<u8> {
+    let states = states(limits);
+    let mut draw = Draw::new(91);
+    let mut state = states[0];
+    let outcome = |_| {
+        let miss = state.miss.filter(|_| draw.one_in(rarity));
+        state = states[miss.unwrap_or(state.hit)];
+        u8::from(miss.is_none())
+    };
+    (0..outcomes).map(outcome).collect()
+}
+
+fn figure(figures: &mut Figures, what: &str, input: &str, limits: &[Limit], pattern: &[u8]) {
+    let set = bytes(limits);
+    let found = floe::verdict::judge(&set, pattern);
+    assert_eq!((found.refused, found.job), (0, 0));
+    assert_eq!(plain::verdict::each_window_once(&set, pattern), Ok(None));
+    assert_eq!(plain::verdict::windows_over_each_job(&set, pattern), Ok(None));
+    let times = side_by_side(&mut [
+        &mut || use_up(floe::verdict::judge(black_box(&set), black_box(pattern))),
+        &mut || use_up(plain::verdict::each_window_once(black_box(&set), black_box(pattern))),
+        &mut || use_up(plain::verdict::windows_over_each_job(black_box(&set), black_box(pattern))),
+    ]);
+    let beside = ["each window once, afresh", "after each job all windows over it, afresh"];
+    for (beside, &plain) in beside.into_iter().zip(&times[1..]) {
+        figures.add(Figure {
+            what,
+            input,
+            buffers: "1,000,000 bytes, read just before; none written",
+            unit: Unit::NanosecondsPerOutcome(pattern.len()),
+            archive: times[0],
+            beside,
+            plain,
+        });
+    }
+}
+
+/// Of eight equal limits of window 12 with different shares of misses, and then of small changes.
+fn slowest_case() -> Case {
+    let width_12: Vec<Limit> = allowed_limits().into_iter().filter(|&limit| width(limit) == 12).collect();
+    let case = |limits: Vec<Limit>, rarity| Case { sample: kept(&limits, OUTCOMES / 50, rarity), limits, rarity };
+    let equal = width_12.iter().flat_map(|&limit| (1..=3).map(move |rarity| case(vec![limit; 8], rarity)));
+    let mut draw = Draw::new(92);
+    let change = |slowest: &Case| {
+        let mut limits = slowest.limits.clone();
+        limits[draw.below(8)] = draw.of(&width_12);
+        case(limits, 1 + draw.below(3))
+    };
+    slowest(equal, 200, change, |Case { limits, sample, .. }| {
+        use_up(floe::verdict::judge(black_box(&bytes(limits)), black_box(sample)));
+    })
+}

@@ -1,0 +1,6 @@
+pub mod Adding
+pub mod Digits
+pub mod Texts
+pub mod Answers
+pub mod OneResult
+pub mod Worked

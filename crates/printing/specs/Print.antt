@@ -1,0 +1,41 @@
+-- "The program reads a set from standard input, at most 65 bytes of it; an input over 64 bytes is refusal 1 there, whatever it holds."
+-- Everything else is tested as the builder does, and the text is that of the set's own table.
+use mathlib.Core.Path.{_≡_}
+use mathlib.Core.List.{List, _∷_}
+use Prim.Native.Nat.{ℕ}
+use lib.Dec.{ltb}
+use lib.ListN.{length}
+use Rattle.layout.specs.Refusal.{Row, row, Tested, passed, first}
+use Rattle.machines.specs.Machine.{Machine}
+use Rattle.machines.specs.Canonical.{Canonical}
+use Rattle.meaning.specs.Sets.{KeptBy}
+use Rattle.sets.specs.Bytes.{setOf}
+use Rattle.table.specs.Bytes.{sizeOf}
+use Rattle.builder.specs.Build.{earlyRows, buildRows, WorkAfter, tableWhen}
+use Rattle.printing.specs.Text.{textWhen}
+use Rattle.printing.specs.Cut.{held, cut}
+
+-- "an input over 64 bytes is refusal 1 there, whatever it holds"
+abbrev pub inputRow : List ℕ → Row
+inputRow input = row 1 (ltb 64 (length input)) 0
+
+-- what is tested before the work area is used, and everything
+abbrev pub printEarly : (longest : ℕ) → (input work : List ℕ) → Tested
+printEarly longest input work = first (inputRow input ∷ earlyRows longest input work)
+
+abbrev pub printTests : (longest : ℕ) → (input work table : List ℕ) → Machine → Tested
+printTests longest input work table m = first (inputRow input ∷ buildRows longest input work table (sizeOf (m .states)))
+
+-- the text for an input, with the machine that is the canonical one of the set where the tests get past 8
+abbrev pub textFor : (longest : ℕ) → (input work table : List ℕ) → Machine → List ℕ
+textFor longest input work table m = textWhen (printTests longest input work table m) m
+
+pub record PrintedWith (longest : ℕ) (input work work′ table table′ out out′ : List ℕ) (r : ℕ) (m : Machine) : Type 0 where
+  pub canonical : printEarly longest input work ≡ passed → Canonical m (KeptBy (setOf input))
+  pub work-after : WorkAfter (printEarly longest input work) work work′
+  pub table-after : table′ ≡ tableWhen (printTests longest input work table m) m table
+  pub returned : r ≡ held (textFor longest input work table m) out
+  pub out-after : out′ ≡ cut (textFor longest input work table m) out
+
+abbrev pub PrintedAs : (longest : ℕ) → (input work work′ table table′ out out′ : List ℕ) → ℕ → Type 0
+PrintedAs longest input work work′ table table′ out out′ r = (m : Machine) × PrintedWith longest input work work′ table table′ out out′ r m

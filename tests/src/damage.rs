@@ -1,0 +1,93 @@
+//! Bytes of a set or a table with faults in them, often several at once.
+
+use crate::draw::Draw;
+use crate::reference::sets;
+
+/// Values next to a bound of 01, and those that a wrong width or sign would confuse.
+const TELLING: [u8; 16] = [0, 1, 2, 3, 4, 5, 7, 8, 9, 11, 12, 13, 16, 127, 128, 255];
+
+/// One to four edits. Half of the results get a true length field again, so that the later tests are reached.
+pub fn damage(draw: &mut Draw, bytes: &mut Vec<u8>) {
+    for _ in 0..1 + draw.below(4) {
+        edit(draw, bytes);
+    }
+    if draw.one_in(2) {
+        mend_length(bytes);
+    }
+}
+
+fn edit(draw: &mut Draw, bytes: &mut Vec<u8>) {
+    let place = draw.below(bytes.len().max(1));
+    match draw.below(8) {
+        0 => bytes.truncate(place),
+        1 => bytes.extend((0..1 + draw.below(6)).map(|_| 1)),
+        2 => bytes.insert(place, draw.of(&TELLING)),
+        3 if place < bytes.len() => drop(bytes.remove(place)),
+        4 if place < bytes.len() => bytes[place] = draw.byte(),
+        // The version and the counts stand near the front.
+        5 if bytes.len() > 6 => bytes[4 + place % 3] = draw.of(&TELLING),
+        _ if place < bytes.len() => bytes[place] = draw.of(&TELLING),
+        _ => bytes.push(draw.byte()),
+    }
+}
+
+/// "Both begin with four bytes, big-endian, that count the bytes after them."
+pub fn mend_length(bytes: &mut [u8]) {
+    if bytes.len() >= 4 {
+        let rest = (bytes.len() - 4) as u32;
+        bytes[..4].copy_from_slice(&rest.to_be_bytes());
+    }
+}
+
+/// A set in which each of the faults 1 to 7 is present by its own chance, so that the order of the tests shows.
+pub fn faulty_set(draw: &mut Draw) -> Vec<u8> {
+    let mut limits = draw.set();
+    for limit in &mut limits {
+        if draw.one_in(8) {
+            limit.kind = draw.of(&[4, 5, 128, 255]);
+        }
+        if draw.one_in(8) {
+            limit.k = draw.of(&[0, 1, 13, 255]);
+        }
+        if draw.one_in(8) {
+            limit.x = draw.of(&[limit.k.saturating_add(1), 11, 12, 255]);
+        }
+    }
+    let mut bytes = sets::bytes(&limits);
+    if draw.one_in(6) {
+        bytes[5] = draw.of(&[0, 1, 8, 9, 255]);
+    }
+    if draw.one_in(6) {
+        bytes[4] = draw.of(&[0, 2, 129]);
+    }
+    if draw.one_in(6) {
+        bytes.truncate(4 + draw.below(bytes.len() - 4));
+        mend_length(&mut bytes);
+    }
+    if draw.one_in(10) {
+        bytes[draw.below(4)] ^= 1 << draw.below(8);
+    }
+    bytes
+}
+
+/// Bytes shaped like a table of up to `most` states, whose next states are mostly, but not all, below n.
+pub fn drawn_table(draw: &mut Draw, most: usize) -> Vec<u8> {
+    let n = 1 + draw.below(most);
+    let faulty = draw.one_in(2);
+    let next = |draw: &mut Draw, on_miss: bool| -> [u8; 2] {
+        if on_miss && draw.one_in(4) {
+            return [0xFF, 0xFF];
+        }
+        let beyond = [n, n + 1, 0xFFFE, 0xFFFF];
+        let state = if faulty && draw.one_in(n) { draw.of(&beyond) } else { draw.below(n) };
+        (state as u16).to_be_bytes()
+    };
+    let mut bytes = vec![0, 0, 0, 0, 1];
+    bytes.extend((n as u16).to_be_bytes());
+    for _ in 0..n {
+        bytes.extend(next(draw, true));
+        bytes.extend(next(draw, false));
+    }
+    mend_length(&mut bytes);
+    bytes
+}

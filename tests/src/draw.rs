@@ -1,0 +1,97 @@
+//! Cases by chance, the same in every run.
+
+use std::env;
+
+use crate::reference::limits::Limit;
+use crate::reference::{HIT, MISS};
+
+/// Marsaglia's xorshift64, with a multiplication so that the low bits are as good as the high ones.
+pub struct Draw(u64);
+
+impl Draw {
+    /// Each test has a seed of its own.
+    pub fn new(seed: u64) -> Draw {
+        Draw(seed.wrapping_mul(0x9E37_79B9_7F4A_7C15) | 1)
+    }
+
+    pub fn number(&mut self) -> u64 {
+        self.0 ^= self.0 >> 12;
+        self.0 ^= self.0 << 25;
+        self.0 ^= self.0 >> 27;
+        self.0.wrapping_mul(0x2545_F491_4F6C_DD1D) >> 16
+    }
+
+    pub fn below(&mut self, bound: usize) -> usize {
+        self.number() as usize % bound
+    }
+
+    pub fn one_in(&mut self, n: usize) -> bool {
+        self.below(n) == 0
+    }
+
+    pub fn of<T: Copy>(&mut self, choices: &[T]) -> T {
+        choices[self.below(choices.len())]
+    }
+
+    pub fn byte(&mut self) -> u8 {
+        self.number() as u8
+    }
+
+    /// A limit with any allowed numbers.
+    pub fn limit(&mut self) -> Limit {
+        let kind = self.below(4) as u8;
+        if kind == 3 {
+            return Limit { kind, x: self.below(12) as u8, k: 0 };
+        }
+        let k = 1 + self.below(12);
+        Limit { kind, x: self.below(k + 1) as u8, k: k as u8 }
+    }
+
+    /// A limit that leaves room for misses: eight limits of any numbers mostly keep hits alone.
+    pub fn mild_limit(&mut self) -> Limit {
+        let kind = self.below(4) as u8;
+        let some = self.below(4) as u8;
+        if kind == 3 {
+            return Limit { kind, x: 1 + some, k: 0 };
+        }
+        let k = 6 + self.below(7) as u8;
+        Limit { kind, x: if kind == 2 { k - 1 - some } else { 1 + some.min(2) }, k }
+    }
+
+    /// A set of 1 to 8 limits.
+    pub fn set(&mut self) -> Vec<Limit> {
+        let count = 1 + self.below(8);
+        let mild = !self.one_in(4);
+        (0..count).map(|_| if mild { self.mild_limit() } else { self.limit() }).collect()
+    }
+
+    /// A set that differs little from another, so that the first pattern between them is long.
+    pub fn neighbour(&mut self, set: &[Limit]) -> Vec<Limit> {
+        let mut near = set.to_vec();
+        let place = self.below(near.len());
+        match self.below(4) {
+            0 if near.len() > 1 => drop(near.remove(place)),
+            1 if near.len() < 8 => near.insert(place, self.mild_limit()),
+            2 => near.swap(0, place),
+            _ => {
+                let limit = &mut near[place];
+                let most = if limit.kind == 3 { 11 } else { limit.k };
+                limit.x = if limit.x == most { most - 1 } else { limit.x + 1 };
+            }
+        }
+        near
+    }
+
+    /// Outcomes of which one in `rarity` is a miss.
+    pub fn pattern(&mut self, jobs: usize, rarity: usize) -> Vec<u8> {
+        (0..jobs).map(|_| if self.one_in(rarity) { MISS } else { HIT }).collect()
+    }
+}
+
+/// How many cases to draw: `usual` times the environment variable FLOELINNET_CASES.
+pub fn cases(usual: usize) -> usize {
+    match env::var("FLOELINNET_CASES") {
+        Ok(times) => usual * times.parse::<usize>().expect("FLOELINNET_CASES is a whole number"),
+        Err(_) => usual,
+    }
+}

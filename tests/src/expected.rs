@@ -1,0 +1,99 @@
+//! The record in which an answer of the reference has to arrive.
+//!
+//! "Where a refusal's answer must still hold a set, a pattern or a guard, it is a set of count 0, a pattern of
+//! length 0 or ... a guard not lost, in state 0"; "places not used hold zeros", and so do fields an answer doesn't use.
+
+use crate::floe;
+use crate::reference::compare::{Between, RefusedSet};
+use crate::reference::guard::{Answer, Guard};
+use crate::reference::limits::Limit;
+use crate::reference::verdict::Lost;
+use crate::reference::Refusal;
+
+fn numbers(refusal: Refusal) -> (u64, u64) {
+    (u64::from(refusal.number), refusal.at as u64)
+}
+
+pub fn set_read(answer: Result<Vec<Limit>, Refusal>) -> floe::SetRead {
+    let mut read = floe::SetRead::default();
+    match answer {
+        Ok(limits) => {
+            read.set.count = limits.len() as u64;
+            for (place, limit) in read.set.limits.iter_mut().zip(limits) {
+                *place = floe::Limit { kind: limit.kind, x: limit.x, k: limit.k };
+            }
+        }
+        Err(refusal) => (read.refused, read.at) = numbers(refusal),
+    }
+    read
+}
+
+pub fn verdict(answer: Result<Option<Lost>, Refusal>) -> floe::Verdict {
+    let mut verdict = floe::Verdict::default();
+    match answer {
+        Ok(None) => {}
+        Ok(Some(lost)) => (verdict.job, verdict.limit) = (lost.job as u64, lost.limit as u64),
+        Err(refusal) => (verdict.refused, verdict.at) = numbers(refusal),
+    }
+    verdict
+}
+
+pub fn comparison(answer: Result<Between, RefusedSet>) -> floe::Comparison {
+    let mut comparison = floe::Comparison::default();
+    match answer {
+        Ok(None) => comparison.covers = 1,
+        Ok(Some(pattern)) => {
+            comparison.length = pattern.len() as u64;
+            comparison.pattern[..pattern.len()].copy_from_slice(&pattern);
+        }
+        Err(refused) => {
+            comparison.which = u64::from(refused.which);
+            (comparison.refused, comparison.at) = numbers(refused.refusal);
+        }
+    }
+    comparison
+}
+
+pub fn built(answer: Result<Vec<u8>, Refusal>) -> floe::Built {
+    match answer {
+        Ok(table) => floe::Built { length: table.len() as u64, ..Default::default() },
+        Err(refusal) => floe::Built { refused: numbers(refusal).0, at: numbers(refusal).1, length: 0 },
+    }
+}
+
+pub fn checked(answer: Result<usize, Refusal>) -> floe::Checked {
+    match answer {
+        Ok(n) => floe::Checked { states: n as u64, ..Default::default() },
+        Err(refusal) => floe::Checked { refused: numbers(refusal).0, at: numbers(refusal).1, states: 0 },
+    }
+}
+
+pub fn guard(guard: Guard) -> floe::Guard {
+    floe::Guard { state: guard.state, lost: guard.lost }
+}
+
+pub fn done(answer: Result<(), Refusal>) -> floe::Done {
+    let (refused, at) = answer.map_or_else(numbers, |()| (0, 0));
+    floe::Done { refused, at }
+}
+
+pub fn started(answer: Result<Guard, Refusal>) -> floe::Started {
+    let floe::Done { refused, at } = done(answer.map(drop));
+    floe::Started { refused, at, guard: answer.map(guard).unwrap_or_default() }
+}
+
+/// "A refusal ... returns a guard unchanged": `before` is the guard that went in.
+pub fn told(before: Guard, answer: Result<Guard, Refusal>) -> floe::Told {
+    let floe::Done { refused, at } = done(answer.map(drop));
+    floe::Told { refused, at, guard: guard(answer.unwrap_or(before)) }
+}
+
+pub fn row_asked(answer: Result<Answer, Refusal>) -> floe::RowAsked {
+    let floe::Done { refused, at } = done(answer.map(drop));
+    floe::RowAsked { refused, at, answer: answer.map_or(0, |answer| answer as u64) }
+}
+
+pub fn asked(before: Guard, answer: Result<Answer, Refusal>) -> floe::Asked {
+    let floe::RowAsked { refused, at, answer } = row_asked(answer);
+    floe::Asked { refused, at, answer, guard: guard(before) }
+}

@@ -1,0 +1,15 @@
+//! Tests of the Floelinnet archive from outside.
+//!
+//! `reference` is 01 (rules/01-scope.md) by brute force, `floe` calls the archive, and the files under
+//! `tests/` hold the two against each other. From this folder, after `rt staticlib floelinnet` in the root:
+//!
+//!     cargo test --release --offline
+//!
+//! Every run draws the same cases. FLOELINNET_CASES=10 draws ten times as many.
+
+pub mod damage;
+pub mod draw;
+pub mod expected;
+pub mod floe;
+pub mod pages;
+pub mod reference;

@@ -1,0 +1,73 @@
+//! floe_build against the reference, with everything that was lent looked at afterwards.
+
+use floelinnet_tests::damage::{damage, faulty_set};
+use floelinnet_tests::draw::{cases, Draw};
+use floelinnet_tests::reference::limits::allowed_limits;
+use floelinnet_tests::reference::{sets, table};
+use floelinnet_tests::{expected, floe};
+
+const WORK_ENTRIES: usize = 8192;
+/// Places on both sides of a lent buffer that the archive must not reach.
+const MARGIN: usize = 16;
+
+/// Builds in buffers full of chance numbers. "A refusal writes to no lent buffer ..., with one exception: a
+/// builder that got past 8 leaves the first 8,192 work entries zero, whether it then builds or gives 9. Work
+/// entries beyond those, and table bytes beyond 7+4n, are never written."
+fn agree(draw: &mut Draw, set: &[u8], work_entries: usize, room: usize) -> u64 {
+    let mut work: Vec<u16> = (0..work_entries + 2 * MARGIN).map(|_| draw.number() as u16).collect();
+    let mut bytes: Vec<u8> = (0..room + 2 * MARGIN).map(|_| draw.byte()).collect();
+    let (mut want_work, mut want_bytes) = (work.clone(), bytes.clone());
+    let answer = table::build(set, work_entries, room);
+    if answer.as_ref().map_or_else(|refusal| refusal.number == 9, |_| true) {
+        want_work[MARGIN..][..WORK_ENTRIES].fill(0);
+    }
+    if let Ok(table) = &answer {
+        want_bytes[MARGIN..][..table.len()].copy_from_slice(table);
+    }
+    let lent_work = &mut work[MARGIN..][..work_entries];
+    let lent_bytes = &mut bytes[MARGIN..][..room];
+    let built = floe::builder::build(set, lent_work, lent_bytes);
+    assert_eq!(built, expected::built(answer), "build {set:02X?}, {work_entries} work entries, room {room}");
+    assert!(work == want_work, "work area after build {set:02X?}, {work_entries} entries, room {room}");
+    assert!(bytes == want_bytes, "table buffer after build {set:02X?}, {work_entries} entries, room {room}");
+    built.refused
+}
+
+#[test]
+fn every_limit_alone() {
+    let mut draw = Draw::new(41);
+    for limit in allowed_limits() {
+        assert_eq!(agree(&mut draw, &sets::bytes(&[limit]), WORK_ENTRIES, 8199), 0);
+    }
+}
+
+#[test]
+fn random_sets_and_rooms() {
+    let mut draw = Draw::new(42);
+    let mut refused = 0;
+    for _ in 0..cases(300) {
+        let limits = draw.set();
+        let length = 7 + 4 * table::states(&limits).len();
+        let room = draw.of(&[0, 6, length - 1, length, length + 1, 8199]);
+        let entries = draw.of(&[WORK_ENTRIES, WORK_ENTRIES + 1, 20_000]);
+        refused += agree(&mut draw, &sets::bytes(&limits), entries, room) / 9;
+    }
+    assert!(refused > 20, "{refused}");
+}
+
+#[test]
+fn refused_sets_and_work_areas() {
+    let mut draw = Draw::new(43);
+    let mut seen = [0; 10];
+    for round in 0..cases(4_000) {
+        let mut set = faulty_set(&mut draw);
+        if round % 2 == 0 {
+            set = sets::bytes(&draw.set());
+            damage(&mut draw, &mut set);
+        }
+        let entries = draw.of(&[0, 1, WORK_ENTRIES - 1]);
+        let room = draw.of(&[0, 7, 100]);
+        seen[agree(&mut draw, &set, entries, room) as usize] += 1;
+    }
+    assert!((1..=8).all(|number| seen[number] > 10), "{seen:?}");
+}

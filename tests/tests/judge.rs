@@ -1,0 +1,155 @@
+//! floe_judge against the reference.
+
+use floelinnet_tests::damage::{damage, faulty_set};
+use floelinnet_tests::draw::{cases, Draw};
+use floelinnet_tests::pages::pages;
+use floelinnet_tests::reference::limits::{allowed_limits, keeps, set_keeps, Limit};
+use floelinnet_tests::reference::verdict::{judge, Lost};
+use floelinnet_tests::reference::{sets, table, HIT, MISS};
+use floelinnet_tests::{expected, floe};
+
+fn agree(set: &[u8], pattern: &[u8]) -> floe::Verdict {
+    let want = expected::verdict(judge(set, pattern));
+    assert_eq!(floe::verdict::judge(set, pattern), want, "judge {set:02X?} on {pattern:?}");
+    want
+}
+
+/// All 8,191 patterns of at most 12 jobs.
+fn agree_on_all_short_patterns(limits: &[Limit]) {
+    let set = sets::bytes(limits);
+    for (pattern, lost) in pages().patterns.iter().zip(pages().verdicts(limits)) {
+        let want = expected::verdict(Ok(lost.map(|(job, limit)| Lost { job, limit })));
+        assert_eq!(floe::verdict::judge(&set, pattern), want, "judge {limits:?} on {pattern:?}");
+    }
+}
+
+#[test]
+fn every_limit_alone_on_all_short_patterns() {
+    for limit in allowed_limits() {
+        agree_on_all_short_patterns(&[limit]);
+    }
+}
+
+#[test]
+fn random_sets_on_all_short_patterns() {
+    let mut draw = Draw::new(11);
+    for _ in 0..cases(800) {
+        agree_on_all_short_patterns(&draw.set());
+    }
+}
+
+/// A pattern that the set mostly keeps: a miss that would lose it is drawn again as a hit, seldom not.
+fn surviving(draw: &mut Draw, limits: &[Limit], jobs: usize, rarity: usize) -> Vec<u8> {
+    let mut pattern = Vec::new();
+    for _ in 0..jobs {
+        pattern.push(MISS);
+        let miss = draw.one_in(rarity) && (draw.one_in(100) || set_keeps(limits, &pattern));
+        *pattern.last_mut().unwrap() = if miss { MISS } else { HIT };
+    }
+    pattern
+}
+
+#[test]
+fn random_sets_on_longer_patterns() {
+    let mut draw = Draw::new(12);
+    let (mut kept, mut lost_late) = (0, 0);
+    for _ in 0..cases(4_000) {
+        let limits = draw.set();
+        let set = sets::bytes(&limits);
+        let jobs = 13 + draw.below(48);
+        let rarity = draw.of(&[1, 2, 3, 8]);
+        agree(&set, &draw.pattern(jobs, rarity));
+        let verdict = agree(&set, &surviving(&mut draw, &limits, jobs, rarity));
+        kept += usize::from(verdict.job == 0);
+        lost_late += usize::from(verdict.job > 12);
+    }
+    assert!(kept > 100 && lost_late > 100, "kept {kept}, lost after job 12 {lost_late}");
+}
+
+/// Job numbers that need more than 16 bits. Literal windows would take hours here, so the reference's table says
+/// which job loses the pattern, and literal windows only which limit, on the outcomes just before that job.
+#[test]
+fn very_long_patterns() {
+    let mut draw = Draw::new(13);
+    let mut lost = 0;
+    for _ in 0..cases(100) {
+        let limits = draw.set();
+        let states = table::states(&limits);
+        let jobs = 65_500 + draw.below(4_000);
+        let pattern = kept_then_misses(&mut draw, &states, jobs);
+        let job = lost_job(&states, &pattern);
+        let before = &pattern[job.saturating_sub(40)..job];
+        let limit = limits.iter().position(|&limit| !keeps(limit, before));
+        let want = expected::verdict(Ok(limit.map(|limit| Lost { job, limit })));
+        assert_eq!(floe::verdict::judge(&sets::bytes(&limits), &pattern), want, "judge {limits:?}");
+        lost += usize::from(job > 65_536);
+    }
+    assert!(lost > 10, "lost after job 65,536: {lost}");
+}
+
+/// A pattern that can be walked, with many misses, and then twenty misses that most sets don't keep.
+fn kept_then_misses(draw: &mut Draw, states: &[table::State], jobs: usize) -> Vec<u8> {
+    let rarity = draw.of(&[1, 2, 8, 64]);
+    let mut state = states[0];
+    let mut pattern = Vec::new();
+    for _ in 0..jobs {
+        let miss = state.miss.filter(|_| draw.one_in(rarity));
+        state = states[miss.unwrap_or(state.hit)];
+        pattern.push(if miss.is_some() { MISS } else { HIT });
+    }
+    pattern.extend([MISS; 20]);
+    pattern
+}
+
+/// The job at which a walk through the table ends, 0 if it doesn't.
+fn lost_job(states: &[table::State], pattern: &[u8]) -> usize {
+    let mut state = states[0];
+    for (place, &outcome) in pattern.iter().enumerate() {
+        match (outcome, state.miss) {
+            (HIT, _) => state = states[state.hit],
+            (_, Some(next)) => state = states[next],
+            (_, None) => return place + 1,
+        }
+    }
+    0
+}
+
+#[test]
+fn outcome_bytes_that_are_no_outcomes() {
+    let mut draw = Draw::new(14);
+    for _ in 0..cases(200_000) {
+        let set = sets::bytes(&draw.set());
+        let jobs = 1 + draw.below(20);
+        let mut pattern = draw.pattern(jobs, 3);
+        for _ in 0..1 + draw.below(3) {
+            let place = draw.below(pattern.len());
+            pattern[place] = draw.of(&[2, 3, 128, 129, 254, 255]);
+        }
+        assert_eq!(agree(&set, &pattern).refused, 13);
+    }
+    for byte in 0..=255 {
+        // "even if it is lost earlier"
+        agree(&[0, 0, 0, 5, 1, 1, 0, 1, 1], &[0, 0, byte]);
+    }
+}
+
+#[test]
+fn faults_in_the_set_and_in_the_pattern() {
+    let mut draw = Draw::new(15);
+    let mut seen = [0; 14];
+    for round in 0..cases(300_000) {
+        let mut set = faulty_set(&mut draw);
+        if round % 2 == 0 {
+            set = sets::bytes(&draw.set());
+            damage(&mut draw, &mut set);
+        }
+        let jobs = draw.below(16);
+        let mut pattern = draw.pattern(jobs, 2);
+        if !pattern.is_empty() && draw.one_in(2) {
+            let place = draw.below(pattern.len());
+            pattern[place] = draw.byte();
+        }
+        seen[agree(&set, &pattern).refused as usize] += 1;
+    }
+    assert!([1, 2, 3, 4, 5, 6, 7, 13].iter().all(|&number| seen[number] > 100), "{seen:?}");
+}

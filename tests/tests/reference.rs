@@ -1,0 +1,77 @@
+//! The reference against itself, said in a second way.
+
+use floelinnet_tests::draw::{cases, Draw};
+use floelinnet_tests::pages::pages;
+use floelinnet_tests::reference::limits::{allowed_limits, set_keeps, width, Limit};
+use floelinnet_tests::reference::table::{bytes, check, states, State};
+use floelinnet_tests::reference::verdict::lost;
+use floelinnet_tests::reference::{patterns_in_order, HIT, MISS};
+
+/// 01 without any machine: a state is what is kept after a pattern, as far as windows of `longest` jobs can tell.
+fn states_by_continuations(set: &[Limit], longest: usize) -> Vec<State> {
+    let continued = |pattern: &[u8], with: &[u8]| set_keeps(set, &[pattern, with].concat());
+    let future = |pattern: &[u8]| -> Vec<bool> {
+        patterns_in_order(longest).map(|continuation| continued(pattern, &continuation)).collect()
+    };
+    let mut first: Vec<(Vec<u8>, Vec<bool>)> = Vec::new();
+    for pattern in patterns_in_order(longest).filter(|pattern| set_keeps(set, pattern)) {
+        let future = future(&pattern);
+        if first.iter().all(|(_, known)| *known != future) {
+            first.push((pattern, future));
+        }
+    }
+    let number = |pattern: Vec<u8>| first.iter().position(|(_, known)| *known == future(&pattern));
+    first
+        .iter()
+        .map(|(pattern, _)| State {
+            miss: number([&pattern[..], &[MISS]].concat()),
+            hit: number([&pattern[..], &[HIT]].concat()).expect("a hit is always allowed"),
+        })
+        .collect()
+}
+
+#[test]
+fn tables_of_short_windows() {
+    let short = |limit: &Limit| width(*limit) <= 5;
+    for limit in allowed_limits().into_iter().filter(short) {
+        assert_eq!(states(&[limit]), states_by_continuations(&[limit], 5), "{limit:?}");
+    }
+    let mut draw = Draw::new(31);
+    for _ in 0..cases(200) {
+        let limits: Vec<Limit> = (0..8).map(|_| draw.limit()).filter(short).collect();
+        if !limits.is_empty() {
+            assert_eq!(states(&limits), states_by_continuations(&limits, 5), "{limits:?}");
+        }
+    }
+}
+
+/// The table of any set walks exactly the patterns kept, and passes the check.
+#[test]
+fn tables_walk_what_is_kept() {
+    let mut draw = Draw::new(32);
+    for _ in 0..cases(100) {
+        let limits = draw.set();
+        let states = states(&limits);
+        assert_eq!(check(&bytes(&states)), Ok(states.len()));
+        for (pattern, lost) in pages().patterns.iter().zip(pages().verdicts(&limits)) {
+            let end = pattern.iter().try_fold(0, |state: usize, &outcome| match outcome {
+                HIT => Some(states[state].hit),
+                _ => states[state].miss,
+            });
+            assert_eq!(end.is_some(), lost.is_none(), "{limits:?} on {pattern:?}");
+        }
+    }
+}
+
+/// The pages give back what the literal verdict says.
+#[test]
+fn pages_are_literal() {
+    let mut draw = Draw::new(33);
+    for _ in 0..cases(20) {
+        let limits = draw.set();
+        for (pattern, from_page) in pages().patterns.iter().zip(pages().verdicts(&limits)) {
+            let literal = lost(&limits, pattern).map(|lost| (lost.job, lost.limit));
+            assert_eq!(from_page, literal, "{limits:?} on {pattern:?}");
+        }
+    }
+}
