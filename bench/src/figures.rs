@@ -52,6 +52,7 @@ impl Unit {
     fn show(self, nanoseconds: f64) -> String {
         match self {
             Unit::Nanoseconds => format!("{nanoseconds:.1} ns"),
+            Unit::Microseconds if nanoseconds < 1e4 => format!("{:.2} µs", nanoseconds / 1e3),
             Unit::Microseconds => format!("{:.0} µs", nanoseconds / 1e3),
             Unit::NanosecondsPerOutcome(outcomes) => {
                 format!("{:.1} ns an outcome", nanoseconds / outcomes as f64)

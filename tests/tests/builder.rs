@@ -71,3 +71,38 @@ fn refused_sets_and_work_areas() {
     }
     assert!((1..=8).all(|number| seen[number] > 10), "{seen:?}");
 }
+
+/// Builds with room for every set.
+fn table_of(set: &[u8]) -> Vec<u8> {
+    let mut bytes = vec![0; 8199];
+    let built = floe::builder::build(set, &mut vec![0; WORK_ENTRIES], &mut bytes);
+    assert_eq!(built.refused, 0);
+    bytes.truncate(built.length as usize);
+    bytes
+}
+
+/// A built table passes the check, and walks a pattern exactly as far as the verdict keeps it.
+#[test]
+fn walked_against_the_verdict() {
+    let mut draw = Draw::new(44);
+    for _ in 0..cases(3_000) {
+        let set = sets::bytes(&draw.set());
+        let table = table_of(&set);
+        assert_eq!(floe::table::check_table(&table).refused, 0);
+        let rarity = draw.of(&[1, 2, 4]);
+        let pattern = draw.pattern(200, rarity);
+        let entry = |state: usize, outcome: u8| {
+            let at = 7 + 4 * state + 2 * usize::from(outcome);
+            u16::from_be_bytes([table[at], table[at + 1]])
+        };
+        let mut state = 0;
+        let walked = pattern.iter().take_while(|&&outcome| {
+            let next = entry(state, outcome);
+            state = usize::from(next);
+            next != 0xFFFF
+        });
+        let walked = walked.count() as u64;
+        let job = floe::verdict::judge(&set, &pattern).job;
+        assert_eq!(walked, if job == 0 { pattern.len() as u64 } else { job - 1 }, "{set:02X?} {pattern:?}");
+    }
+}
