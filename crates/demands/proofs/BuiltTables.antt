@@ -8,7 +8,7 @@ use Prim.Native.Nat.{ℕ, _-_, _≤_, _<_}
 use lib.ListN.{take, drop}
 use lib.Seq.{take-at}
 use Rattle.layout.specs.Refusal.{Tested, passed, refused, first}
-use Rattle.layout.proofs.Rows.{and-then, first-append, passed-not-refused}
+use Rattle.layout.proofs.Rows.{both-passed}
 use Rattle.machines.specs.Machine.{Machine, WellMade, onward, walk, Walks}
 use Rattle.machines.specs.Canonical.{Canonical, OneTable}
 use Rattle.machines.proofs.Walk.{walk-snoc}
@@ -74,21 +74,10 @@ module _ (set work work′ table table′ : List ℕ) (size : ℕ) (built : Buil
   all-passed = sym (built .1 .answer)
 
   early-passed : first (earlyRows longest set work) ≡ passed
-  early-passed = go (first (earlyRows longest set work)) refl
-    where
-      go : (t : Tested) → first (earlyRows longest set work) ≡ t → first (earlyRows longest set work) ≡ passed
-      go passed e = e
-      go (refused n v) e =
-          absurd (passed-not-refused (sym all-passed ∙ first-append (earlyRows longest set work) (roomRow table (sizeOf (m .states)) ∷ [])
-          ∙ ap (λ z. and-then z (first (roomRow table (sizeOf (m .states)) ∷ []))) e))
+  early-passed = both-passed (earlyRows longest set work) (roomRow table (sizeOf (m .states)) ∷ []) all-passed .0
 
   set-passed : first (setRows longest set) ≡ passed
-  set-passed = go (first (setRows longest set)) refl
-    where
-      go : (t : Tested) → first (setRows longest set) ≡ t → first (setRows longest set) ≡ passed
-      go passed e = e
-      go (refused n v) e =
-          absurd (passed-not-refused (sym early-passed ∙ first-append (setRows longest set) (areaRow work ∷ []) ∙ ap (λ z. and-then z (first (areaRow work ∷ []))) e))
+  set-passed = both-passed (setRows longest set) (areaRow work ∷ []) early-passed .0
 
   pub built-allowed : SetAllowed longest (setOf set)
   built-allowed = accepted-allowed longest set set-passed

@@ -1,6 +1,6 @@
 -- How the first row that holds is found: a row that holds is the answer, a row that doesn't hands on to the next. Assumes nothing.
-use mathlib.Core.Path.{_≡_, refl, sym}
-use mathlib.Core.Bool.{Bool, true, false, cond}
+use mathlib.Core.Path.{_≡_, refl, sym, ap, _∙_}
+use mathlib.Core.Bool.{Bool, true, false, cond, _||_, true≢false}
 use mathlib.Core.List.{List, [], _∷_, _++_}
 use Prim.Native.Nat.{ℕ}
 use native.Mathlib.Omega.{arith}
@@ -40,3 +40,15 @@ first-append (r ∷ a) b = go (r .holds) (first-append a b)
     go : (h : Bool) → first (a ++ b) ≡ and-then (first a) (first b) → cond h (refused (r .number) (r .at)) (first (a ++ b)) ≡ and-then (cond h (refused (r .number) (r .at)) (first a)) (first b)
     go true e = refl
     go false e = e
+
+pub both-passed : (a b : List Row) → first (a ++ b) ≡ passed → (first a ≡ passed) × (first b ≡ passed)
+both-passed a b e = go (first a) refl (sym (first-append a b) ∙ e)
+  where
+    go : (t : Tested) → first a ≡ t → and-then (first a) (first b) ≡ passed → (first a ≡ passed) × (first b ≡ passed)
+    go passed f g = (f, sym (ap (λ z. and-then z (first b)) f) ∙ g)
+    go (refused n v) f g = absurd (passed-not-refused (sym g ∙ ap (λ z. and-then z (first b)) f))
+
+-- a row of two conditions does not hold where neither does
+pub or-none : (a b : Bool) → (a || b) ≡ false → (a ≡ false) × (b ≡ false)
+or-none true b e = absurd (true≢false e)
+or-none false b e = (refl, e)

@@ -1,12 +1,12 @@
 -- Adding to the text that a buffer holds: one byte that fits or is cut off, one piece after another, and from the start. Assumes nothing.
-use mathlib.Core.Path.{_≡_, refl, sym, ap, ap₂, _∙_, subst}
+use mathlib.Core.Path.{_≡_, sym, ap, ap₂, _∙_, subst}
 use mathlib.Core.List.{List, [], _∷_, _++_, append-assoc, append-nil}
-use Prim.Native.Nat.{ℕ, suc, _+_, _≤_, _<_, min}
+use Prim.Native.Nat.{ℕ, suc, _+_, _≤_, _<_}
 use native.Mathlib.Numerals.{add-one}
 use native.Mathlib.Omega.{arith}
 use lib.ListN.{length, getD, take, drop, set, length-append, length-take, length-drop, drop-of-length-le}
 use lib.Seq.{take-all, take-append-le, take-nil, take-suc, take-length, drop-cons, set-at}
-use Rattle.printing.specs.Cut.{held, cut, Holds, Adds}
+use Rattle.printing.specs.Cut.{cut, Holds, Adds}
 
 length-cut : (text out : List ℕ) → length (cut text out) ≡ length out
 length-cut text out = simp (length-append, length-take, length-drop) (omega arith)

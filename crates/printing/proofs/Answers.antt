@@ -7,7 +7,7 @@ use native.Mathlib.Omega.{arith}
 use borrow.Author.Tests.{lt-ltb, le-ltb}
 use lib.Dec.{ltb}
 use lib.ListN.{length, take, length-take}
-use Rattle.layout.specs.Refusal.{Row, Tested, passed, refused, first}
+use Rattle.layout.specs.Refusal.{Row, refused, first}
 use Rattle.layout.proofs.Rows.{first-here, first-skip, passed-not-refused}
 use Rattle.machines.specs.Machine.{Machine}
 use Rattle.meaning.specs.Longest.{longest}

@@ -1,21 +1,19 @@
 -- The fewest digits that hold a number are its decimal digits: one turn of the definition takes the last digit off. Assumes nothing.
 use mathlib.Core.Path.{_≡_, refl, sym, ap, ap₂, _∙_}
-use mathlib.Core.Bool.{cond}
-use mathlib.Core.List.{List, [], _∷_, _++_}
-use Prim.Native.Nat.{ℕ, zero, suc, _+_, _-_, _*_, _/_, _%_, _^_, _≤_, _<_}
+use mathlib.Core.List.{[], _∷_, _++_}
+use Prim.Native.Nat.{ℕ, zero, suc, _+_, _-_, _/_, _%_, _^_, _≤_, _<_}
 use native.Mathlib.Nat.{pow-suc}
 use native.Mathlib.Omega.{arith}
 use borrow.Author.Tests.{lt-ltb, le-ltb}
-use lib.Dec.{ltb}
 use Rattle.io.specs.Digits.{glyph, digits, Fewest}
 use Rattle.printing.specs.Text.{digit, decimalIn, decimal}
 
-one-digit : (turns n : ℕ) → n < 10 → decimalIn turns n ≡ digit n ∷ []
+pub one-digit : (turns n : ℕ) → n < 10 → decimalIn turns n ≡ digit n ∷ []
 unfolding decimalIn
 one-digit zero n h = refl
 one-digit (suc k) n h = rw (lt-ltb n 10 h)
 
-more-digits : (turns n : ℕ) → 10 ≤ n → decimalIn (suc turns) n ≡ decimalIn turns (n / 10) ++ digit (n % 10) ∷ []
+pub more-digits : (turns n : ℕ) → 10 ≤ n → decimalIn (suc turns) n ≡ decimalIn turns (n / 10) ++ digit (n % 10) ∷ []
 unfolding decimalIn
 more-digits k n h = rw (le-ltb n 10 h)
 

@@ -4,3 +4,4 @@ pub mod Texts
 pub mod Answers
 pub mod OneResult
 pub mod Worked
+pub mod Whole

@@ -1,5 +1,5 @@
 -- The promise of the printing allows one result: what is tested before the work area is used decides, or the builder's one result and the one text of its table do. Assumes nothing.
-use mathlib.Core.Path.{_≡_, refl, sym, ap, ap₂, _∙_, subst}
+use mathlib.Core.Path.{_≡_, refl, sym, ap, _∙_, subst}
 use mathlib.Core.List.{List, [], _∷_}
 use Prim.Native.Nat.{ℕ}
 use Rattle.layout.specs.Refusal.{Row, Tested, passed, refused, first}

@@ -1,12 +1,12 @@
 -- The lines of a table: one more state is one more line, machines with one table have one text, and what the tests say decides the text. Assumes nothing.
-use mathlib.Core.Path.{_≡_, refl, sym, ap, ap₂, _∙_, subst}
+use mathlib.Core.Path.{_≡_, refl, sym, ap, ap₂, _∙_}
 use mathlib.Core.Bool.{Bool, true, false}
 use mathlib.Core.List.{List, [], _++_, append-assoc, append-nil}
 use Prim.Native.Nat.{ℕ, zero, suc, _+_, _<_}
 use native.Mathlib.Nat.{add-zero}
 use native.Mathlib.Numerals.{add-one}
 use native.Mathlib.Omega.{arith}
-use Rattle.layout.specs.Refusal.{Tested, passed, refused, first}
+use Rattle.layout.specs.Refusal.{Tested, passed, refused}
 use Rattle.machines.specs.Machine.{Machine}
 use Rattle.machines.specs.Canonical.{OneTable}
 use Rattle.table.specs.declared.Moves as moves

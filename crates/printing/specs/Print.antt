@@ -2,7 +2,7 @@
 -- Everything else is tested as the builder does, and the text is that of the set's own table.
 use mathlib.Core.Path.{_≡_}
 use mathlib.Core.List.{List, _∷_}
-use Prim.Native.Nat.{ℕ}
+use Prim.Native.Nat.{ℕ, _+_, _*_}
 use lib.Dec.{ltb}
 use lib.ListN.{length}
 use Rattle.layout.specs.Refusal.{Row, row, Tested, passed, first}
@@ -11,6 +11,7 @@ use Rattle.machines.specs.Canonical.{Canonical}
 use Rattle.meaning.specs.Sets.{KeptBy}
 use Rattle.sets.specs.Bytes.{setOf}
 use Rattle.table.specs.Bytes.{sizeOf}
+use Rattle.table.specs.Rows.{mostStates}
 use Rattle.builder.specs.Build.{earlyRows, buildRows, WorkAfter, tableWhen}
 use Rattle.printing.specs.Text.{textWhen}
 use Rattle.printing.specs.Cut.{held, cut}
@@ -29,6 +30,10 @@ printTests longest input work table m = first (inputRow input ∷ buildRows long
 -- the text for an input, with the machine that is the canonical one of the set where the tests get past 8
 abbrev pub textFor : (longest : ℕ) → (input work table : List ℕ) → Machine → List ℕ
 textFor longest input work table m = textWhen (printTests longest input work table m) m
+
+-- the bytes that hold every text: `states 2048` and 2,048 lines as `2047 2047 2047`, each with its newline
+abbrev pub longestText : ℕ
+longestText = 12 + 15 * mostStates
 
 pub record PrintedWith (longest : ℕ) (input work work′ table table′ out out′ : List ℕ) (r : ℕ) (m : Machine) : Type 0 where
   pub canonical : printEarly longest input work ≡ passed → Canonical m (KeptBy (setOf input))

@@ -1,6 +1,6 @@
 -- "It prints for AnyHit(1,2) exactly three lines: `states 2`, `0 1 0`, `1 - 0`. A refusal prints one line, as `refused 3 at 0`." Every line ends with one newline.
 use mathlib.Core.Option.{Option, none, some}
-use mathlib.Core.Bool.{Bool, true, false, cond}
+use mathlib.Core.Bool.{true, false, cond}
 use mathlib.Core.List.{List, [], _∷_, _++_}
 use Prim.Native.Nat.{ℕ, zero, suc, _+_, _/_, _%_}
 use Prim.Native.Char.{code}

@@ -11,21 +11,13 @@ use lib.Dec.{eqb, ltb}
 use lib.ListN.{length}
 use Rattle.layout.specs.Bytes.{lengthField, version}
 use Rattle.layout.specs.Refusal.{Tested, passed, refused, first}
-use Rattle.layout.proofs.Rows.{and-then, passed-not-refused, passed-first, first-append}
+use Rattle.layout.proofs.Rows.{and-then, passed-not-refused, passed-first, first-append, both-passed, or-none}
 use Rattle.meaning.specs.declared.Limit.{Limit}
 use Rattle.meaning.specs.declared.LimitSet.{LimitSet}
 use Rattle.meaning.specs.Limit.{Allowed}
 use Rattle.meaning.specs.Sets.{limitAt, SetAllowed}
 use Rattle.sets.specs.Bytes.{countOf, setOf}
 use Rattle.sets.specs.Rows.{kOutside, xOutside, limitRows, limitsRows, headRows, setRows, memoryRows}
-
-or-none : (a b : Bool) → (a || b) ≡ false → (a ≡ false) × (b ≡ false)
-or-none true b e = absurd (true≢false e)
-or-none false b e = (refl, e)
-
-both-passed : (t u : Tested) → and-then t u ≡ passed → (t ≡ passed) × (u ≡ passed)
-both-passed passed u e = (refl, e)
-both-passed (refused n v) u e = absurd (passed-not-refused (sym e))
 
 -- kinds 0, 1 and 2
 k-and-x : (w x k : ℕ) → (eqb k 0 || ltb w k) ≡ false → ltb k x ≡ false → (1 ≤ k) × (k ≤ w) × (x ≤ k)
@@ -72,7 +64,7 @@ module _ (w : ℕ) (s : LimitSet) where
   unfolding limitsRows
   limits-each i zero e j l h = absurd (omega arith)
   limits-each i (suc n) e j l h =
-      let (a, b) = both-passed _ _ (sym (first-append (limitRows w (limitAt s i) i) (limitsRows w s (suc i) n)) ∙ e) in
+      let (a, b) = both-passed (limitRows w (limitAt s i) i) (limitsRows w s (suc i) n) e in
       dite (ℕ-discrete i j) (λ q. subst (λ z. Allowed w (limitAt s z)) q (limit-allowed w (limitAt s i) i a))
       (λ q. limits-each (suc i) n b j (omega arith) (omega arith))
 
@@ -132,7 +124,7 @@ head-passed b h =
 
 module _ (w : ℕ) (b : List ℕ) (e : first (setRows w b) ≡ passed) where
   both : (first (headRows b) ≡ passed) × (first (limitsRows w (setOf b) 0 (countOf b)) ≡ passed)
-  both = both-passed _ _ (sym (first-append (headRows b) (limitsRows w (setOf b) 0 (countOf b))) ∙ e)
+  both = both-passed (headRows b) (limitsRows w (setOf b) 0 (countOf b)) e
 
   pub accepted-head : Head b
   accepted-head = passed-head b (both .0)

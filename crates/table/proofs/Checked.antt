@@ -11,15 +11,11 @@ use borrow.Author.Tests.{ltb-false, leb-false, eqb-true, eqb-false, not-false, l
 use lib.ListN.{length}
 use Rattle.layout.specs.Bytes.{lengthField, version}
 use Rattle.layout.specs.Refusal.{passed, first}
-use Rattle.layout.proofs.Rows.{first-skip, passed-first}
+use Rattle.layout.proofs.Rows.{first-skip, passed-first, both-passed, or-none}
 use Rattle.machines.specs.Machine.{WellMade}
 use Rattle.table.specs.Bytes.{stateCount, missEntry, hitEntry, noMiss, nextIn, machineOf, sizeOf}
 use Rattle.table.specs.Rows.{mostStates, countRows, entryRows, entriesRows, tableRows, lookRows}
-use Rattle.table.proofs.Turns.{passed-before, passed-both}
-
-or-none : (p q : Bool) → (p || q) ≡ false → (p ≡ false) × (q ≡ false)
-or-none true q e = absurd (true≢false e)
-or-none false q e = (refl, e)
+use Rattle.table.proofs.Turns.{passed-before}
 
 ruleset tests = (le-ltb, lt-leb, eq-eqb, ne-eqb, and-false)
 
@@ -84,7 +80,7 @@ module _ (b : List ℕ) where
   unfolding entriesRows
   passed-entries s zero e j l h = absurd (omega arith)
   passed-entries s (suc n) e j l h =
-      let (f, g) = passed-both (entryRows b s) (entriesRows b (suc s) n) e in
+      let (f, g) = both-passed (entryRows b s) (entriesRows b (suc s) n) e in
       dite (ℕ-discrete s j) (λ q. subst (λ z. Entry b z) q (passed-entry s f)) (λ q. passed-entries (suc s) n g j (omega arith) (omega arith))
 
   entries-passed : (s n : ℕ) → ((j : ℕ) → s ≤ j → j < s + n → Entry b j) → first (entriesRows b s n) ≡ passed
@@ -95,7 +91,7 @@ module _ (b : List ℕ) where
 
   pub passed-table : first (tableRows b) ≡ passed → Table b
   passed-table e =
-      let (f, g) = passed-both (countRows b) (entriesRows b 0 (stateCount b)) e in
+      let (f, g) = both-passed (countRows b) (entriesRows b 0 (stateCount b)) e in
       record { counts = passed-counts f; entry = λ s h. passed-entries 0 (stateCount b) g s (omega arith) (omega arith) }
 
   pub table-passed : Table b → first (tableRows b) ≡ passed

@@ -15,13 +15,6 @@ module _ (a b : List Row) where
   pub passed-before : first a ≡ passed → first (a ++ b) ≡ first b
   passed-before e = first-append a b ∙ ap (λ t. and-then t (first b)) e
 
-  pub passed-both : first (a ++ b) ≡ passed → (first a ≡ passed) × (first b ≡ passed)
-  passed-both e = go (first a) refl
-    where
-      go : (t : Tested) → first a ≡ t → (first a ≡ passed) × (first b ≡ passed)
-      go passed f = (f, sym (passed-before f) ∙ e)
-      go (refused number at) f = absurd (passed-not-refused (sym e ∙ refused-before f))
-
 module _ (b : List ℕ) (n s : ℕ) where
   entries-turn : s < n → entriesRows b s (n - s) ≡ entryRows b s ++ entriesRows b (s + 1) (n - (s + 1))
   unfolding entriesRows

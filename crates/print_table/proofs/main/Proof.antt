@@ -5,11 +5,6 @@ use native.Mathlib.Omega.{arith}
 use lib.Seq.{length-take-le}
 use Rattle.print_table.proofs.main.Statement.{statement}
 use Rattle.print_table.proofs.main.Tie as tie
-use Rattle.print_table.proofs.main.Reads as reads
-use Rattle.print_table.proofs.main.Lts as lts
-use Rattle.io.proofs.read_full.Reads as read-full-reads
-use Rattle.io.proofs.write_all.Reads as write-all-reads
-use Rattle.printing.proofs.print_set.Reads as print-set-reads
 
 slice-aggregate-read-full : tie.Need-slice-aggregate-read-full
 slice-aggregate-read-full c = search needs

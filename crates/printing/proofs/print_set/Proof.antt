@@ -6,11 +6,6 @@ use Rattle.printing.proofs.Adding.{adds-from-start}
 use Rattle.printing.proofs.Answers.{printed-long, printed-refused, printed-built, built-room}
 use Rattle.printing.proofs.print_set.Statement.{statement}
 use Rattle.printing.proofs.print_set.Tie as tie
-use Rattle.printing.proofs.print_set.Reads as reads
-use Rattle.printing.proofs.print_set.Lts as lts
-use Rattle.builder.proofs.build.Reads as build-reads
-use Rattle.printing.proofs.lines.put_refusal.Reads as put-refusal-reads
-use Rattle.printing.proofs.lines.put_table.Reads as put-table-reads
 
 put-refusal-requires : tie.Need-put-refusal-requires
 put-refusal-requires c κs = search needs

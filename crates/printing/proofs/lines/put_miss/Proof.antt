@@ -2,10 +2,6 @@
 use borrow.Author.Needs.{needs}
 use Rattle.printing.proofs.lines.put_miss.Statement.{statement}
 use Rattle.printing.proofs.lines.put_miss.Tie as tie
-use Rattle.printing.proofs.lines.put_miss.Reads as reads
-use Rattle.printing.proofs.lines.put_miss.Lts as lts
-use Rattle.printing.proofs.put.put_number.Reads as put-number-reads
-use Rattle.printing.proofs.put.put_text.Reads as put-text-reads
 
 cast-put-number : tie.Need-cast-put-number
 cast-put-number c = search needs

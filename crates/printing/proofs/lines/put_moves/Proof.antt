@@ -3,11 +3,6 @@ use borrow.Author.Needs.{needs}
 use Rattle.printing.proofs.Adding.{adds-then}
 use Rattle.printing.proofs.lines.put_moves.Statement.{statement}
 use Rattle.printing.proofs.lines.put_moves.Tie as tie
-use Rattle.printing.proofs.lines.put_moves.Reads as reads
-use Rattle.printing.proofs.lines.put_moves.Lts as lts
-use Rattle.printing.proofs.lines.put_miss.Reads as put-miss-reads
-use Rattle.printing.proofs.put.put_number.Reads as put-number-reads
-use Rattle.printing.proofs.put.put_text.Reads as put-text-reads
 
 put-number-requires : tie.Need-put-number-requires
 put-number-requires c κs = search needs

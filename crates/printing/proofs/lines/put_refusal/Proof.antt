@@ -3,10 +3,6 @@ use borrow.Author.Needs.{needs}
 use Rattle.printing.proofs.Adding.{adds-then}
 use Rattle.printing.proofs.lines.put_refusal.Statement.{statement}
 use Rattle.printing.proofs.lines.put_refusal.Tie as tie
-use Rattle.printing.proofs.lines.put_refusal.Reads as reads
-use Rattle.printing.proofs.lines.put_refusal.Lts as lts
-use Rattle.printing.proofs.put.put_number.Reads as put-number-reads
-use Rattle.printing.proofs.put.put_text.Reads as put-text-reads
 
 slice-aggregate-put-text : tie.Need-slice-aggregate-put-text
 slice-aggregate-put-text c = search needs

@@ -7,10 +7,6 @@ use Rattle.printing.proofs.Adding.{adds-same}
 use Rattle.printing.proofs.Texts.{line-of-moves}
 use Rattle.printing.proofs.lines.put_state.Statement.{statement}
 use Rattle.printing.proofs.lines.put_state.Tie as tie
-use Rattle.printing.proofs.lines.put_state.Reads as reads
-use Rattle.printing.proofs.lines.put_state.Lts as lts
-use Rattle.printing.proofs.lines.put_moves.Reads as put-moves-reads
-use Rattle.table.proofs.look.Reads as look-reads
 
 look-requires : tie.Need-look-requires
 look-requires c κs = search needs

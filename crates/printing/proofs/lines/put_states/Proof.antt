@@ -12,9 +12,6 @@ use Rattle.printing.proofs.Adding.{adds-nothing, adds-same, adds-then}
 use Rattle.printing.proofs.Texts.{no-lines, one-more-line}
 use Rattle.printing.proofs.lines.put_states.Statement.{statement}
 use Rattle.printing.proofs.lines.put_states.Tie as tie
-use Rattle.printing.proofs.lines.put_states.Reads as reads
-use Rattle.printing.proofs.lines.put_states.Lts as lts
-use Rattle.printing.proofs.lines.put_state.Reads as put-state-reads
 
 abbrev Inv-loop : tie.InvT-loop
 Inv-loop bytes n out₀ at place₀ state₀ out place state = (state ≤ n) × (length out ≡ length out₀) × Adds (stateLines (machineOf bytes) 0 state) out₀ at out place

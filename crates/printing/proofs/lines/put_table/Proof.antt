@@ -9,12 +9,6 @@ use Rattle.printing.proofs.Adding.{adds-same, adds-then}
 use Rattle.printing.proofs.Texts.{refused-text, passed-text}
 use Rattle.printing.proofs.lines.put_table.Statement.{statement}
 use Rattle.printing.proofs.lines.put_table.Tie as tie
-use Rattle.printing.proofs.lines.put_table.Reads as reads
-use Rattle.printing.proofs.lines.put_table.Lts as lts
-use Rattle.printing.proofs.lines.put_head.Reads as put-head-reads
-use Rattle.printing.proofs.lines.put_refusal.Reads as put-refusal-reads
-use Rattle.printing.proofs.lines.put_states.Reads as put-states-reads
-use Rattle.table.proofs.check_table.Reads as check-table-reads
 
 check-table-requires : tie.Need-check-table-requires
 check-table-requires c κs = search needs

@@ -3,8 +3,6 @@ use borrow.Author.Needs.{needs}
 use Rattle.printing.proofs.Adding.{byte-fits, byte-cut-off}
 use Rattle.printing.proofs.put.put_byte.Statement.{statement}
 use Rattle.printing.proofs.put.put_byte.Tie as tie
-use Rattle.printing.proofs.put.put_byte.Reads as reads
-use Rattle.printing.proofs.put.put_byte.Lts as lts
 
 slice-write-out : tie.Need-slice-write-out
 slice-write-out c = search needs

@@ -5,10 +5,6 @@ use Rattle.printing.proofs.Adding.{adds-same}
 use Rattle.printing.proofs.Digits.{fewest-decimal}
 use Rattle.printing.proofs.put.put_number.Statement.{statement}
 use Rattle.printing.proofs.put.put_number.Tie as tie
-use Rattle.printing.proofs.put.put_number.Reads as reads
-use Rattle.printing.proofs.put.put_number.Lts as lts
-use Rattle.io.proofs.decimal.Reads as decimal-reads
-use Rattle.printing.proofs.put.put_text.Reads as put-text-reads
 
 decimal-requires : tie.Need-decimal-requires
 decimal-requires c κs = search needs

@@ -2,15 +2,11 @@
 use mathlib.Core.Path.{_≡_}
 use Prim.Native.Nat.{_≤_, _-_}
 use borrow.Author.Needs.{needs}
-use native.Mathlib.Omega.{arith}
 use lib.ListN.{length, take}
 use Rattle.printing.specs.Cut.{Adds}
 use Rattle.printing.proofs.Adding.{adds-nothing, adds-next, adds-whole}
 use Rattle.printing.proofs.put.put_text.Statement.{statement}
 use Rattle.printing.proofs.put.put_text.Tie as tie
-use Rattle.printing.proofs.put.put_text.Reads as reads
-use Rattle.printing.proofs.put.put_text.Lts as lts
-use Rattle.printing.proofs.put.put_byte.Reads as put-byte-reads
 
 abbrev Inv-loop : tie.InvT-loop
 Inv-loop text out₀ at place₀ i₀ out place i = (i ≤ length text) × (length out ≡ length out₀) × Adds (take i text) out₀ at out place
