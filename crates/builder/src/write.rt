@@ -8,11 +8,9 @@ ghost use Rattle.classes.specs.Area.{classAt, mayAt};
 ghost use Rattle.numbering.specs.Numbered.{numberAt};
 ghost use Rattle.table.specs.Bytes.{pairBytes, rowBytes, bytesOf, sizeOf, noMiss};
 ghost use Rattle.builder.specs.Rows.{numberNext, tableMachine, headThen, Entries, Writable};
+use classes::MAY_MISS;
 use numbering::NUMBERS;
 use numbering::ORDER;
-
-// The mark of a history after which a miss may follow.
-const MAY_MISS: u16 = 1 << 15;
 
 // A row: where a miss leads and where a hit does, two bytes each, the higher first.
 fn put_row(out: &mut [u8], at: usize, miss: u16, hit: u16)

@@ -17,7 +17,7 @@ use meaning::LimitSet;
 pub const REGION: usize = 1 << (meaning::LONGEST_WINDOW - 1);
 
 // The first region has the classes of the last round, with this bit set where a miss may follow.
-const MAY_MISS: u16 = 32768;
+pub const MAY_MISS: u16 = 1 << 15;
 
 // The second has the classes of this round, the third the heads of the buckets, the fourth the links. A head or a
 // link is 0, or one more than a history.

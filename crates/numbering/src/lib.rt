@@ -8,15 +8,13 @@ ghost use Rattle.machines.specs.Numbering.{place};
 ghost use Rattle.classes.specs.Area.{classAt};
 ghost use Rattle.numbering.specs.Work.{Ready, NumberedFrom};
 ghost use Rattle.numbering.specs.Rows.{Ordered, Visited, possible, Numbering, ReadTo, Cleared};
+use classes::MAY_MISS;
 
 // Where the numbers of the classes begin: 0 for none, or one more than the number.
 pub const NUMBERS: usize = 2 * classes::REGION;
 
 // Where the classes in the order of their numbers begin.
 pub const ORDER: usize = 3 * classes::REGION;
-
-// The mark of a class after which a miss may follow.
-const MAY_MISS: u16 = 1 << 15;
 
 fn clear(n: usize, work: &mut [u16])
     requires { ⌜ Ready n (now work) ⌝ }
