@@ -3,3 +3,4 @@ pub mod Reaching
 pub mod Holding
 pub mod Answers
 pub mod OneResult
+pub mod BuiltTables

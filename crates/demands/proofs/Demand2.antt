@@ -14,7 +14,7 @@ use Rattle.patterns.specs.Outcome.{outcomes}
 use Rattle.patterns.specs.Number.{number}
 use Rattle.patterns.proofs.Numbers.{number-hits}
 use Rattle.machines.specs.Machine.{Machine, walk, Can}
-use Rattle.machines.proofs.Walk.{walk-below}
+use Rattle.machines.proofs.Walk.{walk-below, one-walk}
 use Rattle.machines.proofs.Meeting.{meeting-same}
 use Rattle.meaning.specs.Longest.{longest}
 use Rattle.meaning.specs.Window.{recent}
@@ -46,7 +46,7 @@ use Rattle.guard.specs.Guard.{fresh, askedOf}
 use Rattle.guard.specs.Told.{afterAll, toldAll, heard}
 use Rattle.guard.proofs.Walked.{told-walk}
 use Rattle.guard.proofs.InTable.{answers-by-walk}
-use Rattle.demands.proofs.BuiltTables.{one-walk, built-allowed, built-canonical, bytes, built-checked, built-one-table}
+use Rattle.builder.proofs.BuiltTables.{built-allowed, built-canonical, bytes, built-checked, built-one-table}
 
 -- The verdict says kept exactly when the set keeps the outcomes, and lost at a job by a limit exactly as that is meant.
 module _ (set pattern : List ℕ) (r : Judgement) (judged : JudgedAs longest set pattern r) (accepted : first (judgeRows longest set pattern) ≡ passed) where

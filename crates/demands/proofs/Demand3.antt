@@ -17,7 +17,7 @@ use Rattle.table.specs.Rows.{tableRows, mostStates}
 use Rattle.table.proofs.Bytes.{bytes-of-one-table}
 use Rattle.builder.specs.declared.BuildAnswer.the-variants.{Built}
 use Rattle.builder.specs.Build.{BuiltAs}
-use Rattle.demands.proofs.BuiltTables.{built-allowed, built-canonical, bytes, built-bytes, built-checked, built-one-table, no-more-states}
+use Rattle.builder.proofs.BuiltTables.{built-allowed, built-canonical, bytes, built-bytes, built-checked, built-one-table, no-more-states}
 use Rattle.demands.proofs.Demand2.{table-walks-kept}
 
 module _ (set work work′ table table′ : List ℕ) (size : ℕ) (built : BuiltAs longest set work work′ table table′ (Built size)) where

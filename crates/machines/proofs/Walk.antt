@@ -5,6 +5,7 @@ use mathlib.Core.Option.{Option, none, some, Option·none-ne-some}
 use mathlib.Core.Bool.{Bool}
 use mathlib.Core.List.{List, [], _∷_, _++_}
 use Prim.Native.Nat.{ℕ, _<_}
+use Rattle.machines.specs.Canonical.{OneTable}
 use Rattle.machines.specs.Machine.{Machine, WellMade, onward, walk, Can}
 
 onward-some : (r : Option ℕ) → onward r (λ t. some t) ≡ r
@@ -70,3 +71,12 @@ module _ (m : Machine) where
       go : (r : Option ℕ) → walk m s p ≡ r → Can m s p
       go none e = absurd (cannot s (p ++ q) (rw (walk-append s p q, e)) c)
       go (some t) e = (t, e)
+
+-- machines with one table walk alike
+pub one-walk : (m n : Machine) → WellMade m → OneTable m n → (s : ℕ) → s < m .states → (p : List Bool) → walk m s p ≡ walk n s p
+one-walk m n w o s l [] = refl
+one-walk m n w o s l (x ∷ p) = ap (λ z. onward z (λ t. walk m t p)) (o .moves s x l) ∙ go (n .next s x) refl (λ t h. one-walk m n w o t h p)
+  where
+    go : (r : Option ℕ) → n .next s x ≡ r → ((t : ℕ) → t < m .states → walk m t p ≡ walk n t p) → onward r (λ t. walk m t p) ≡ onward r (λ t. walk n t p)
+    go none e ih = refl
+    go (some t) e ih = ih t (w .next-below s t x l (o .moves s x l ∙ e))

@@ -17,7 +17,7 @@ use Rattle.table.proofs.Bytes.{bytes-length}
 use Rattle.builder.specs.declared.BuildAnswer.{BuildAnswer}
 use Rattle.builder.specs.declared.BuildAnswer.the-variants.{Built, Refused}
 use Rattle.builder.specs.Build.{earlyRows, buildRows, says, lengthWhen, WorkAfter, tableWhen, BuiltWith, BuiltAs}
-use Rattle.demands.proofs.BuiltTables.{built-bytes, built-checked, built-one-table}
+use Rattle.builder.proofs.BuiltTables.{built-bytes, built-checked, built-one-table}
 use Rattle.printing.specs.Text.{refusalText, textWhen}
 use Rattle.printing.specs.Cut.{held, cut, Holds}
 use Rattle.printing.specs.Print.{inputRow, printEarly, printTests, textFor, PrintedAs}

@@ -21,7 +21,7 @@ use Rattle.sets.proofs.Accepted.{passed-head, accepted-allowed}
 use Rattle.table.specs.Bytes.{sizeOf}
 use Rattle.table.specs.Writable.{Writable}
 use Rattle.builder.specs.Build.{areaRow, roomRow, earlyRows}
-use Rattle.demands.proofs.BuiltTables.{canonical-writable}
+use Rattle.builder.proofs.BuiltTables.{canonical-writable}
 use Rattle.printing.specs.Text.{digit, decimalIn, decimal, moveText, stateLine, stateLines, tableText, refusalText, textWhen}
 use Rattle.printing.specs.Print.{longestText, inputRow, printEarly, printTests, textFor, PrintedWith}
 use Rattle.printing.proofs.Digits.{one-digit, more-digits}

@@ -1,7 +1,7 @@
 -- What bytes, a set and a limit hold where all their rows are passed, and that the rows are passed where they hold it: each row is read as the test on numbers that it is. Assumes nothing.
-use mathlib.Core.Path.{_≡_, refl, sym, ap₂, _∙_, subst}
+use mathlib.Core.Path.{_≡_, refl, ap₂, _∙_, subst}
 use mathlib.Core.Logic.{dite}
-use mathlib.Core.Bool.{Bool, true, false, _||_, true≢false}
+use mathlib.Core.Bool.{false, _||_}
 use mathlib.Core.List.{List}
 use Prim.Native.Nat.{ℕ, zero, suc, _+_, _-_, _*_, _≤_, _<_}
 use native.Mathlib.Decide.{ℕ-discrete}
@@ -10,8 +10,8 @@ use borrow.Author.Tests.{ltb-false, leb-false, eqb-true, eqb-false, not-false, l
 use lib.Dec.{eqb, ltb}
 use lib.ListN.{length}
 use Rattle.layout.specs.Bytes.{lengthField, version}
-use Rattle.layout.specs.Refusal.{Tested, passed, refused, first}
-use Rattle.layout.proofs.Rows.{and-then, passed-not-refused, passed-first, first-append, both-passed, or-none}
+use Rattle.layout.specs.Refusal.{passed, first}
+use Rattle.layout.proofs.Rows.{and-then, passed-first, first-append, both-passed, or-none}
 use Rattle.meaning.specs.declared.Limit.{Limit}
 use Rattle.meaning.specs.declared.LimitSet.{LimitSet}
 use Rattle.meaning.specs.Limit.{Allowed}

@@ -1,11 +1,11 @@
 -- How rows are passed part by part: what decides a first part decides all, and a turn of the loop over the entries takes one state's rows off. Assumes nothing.
-use mathlib.Core.Path.{_≡_, refl, sym, ap, _∙_}
+use mathlib.Core.Path.{_≡_, ap, _∙_}
 use mathlib.Core.List.{List, _++_}
 use Prim.Native.Nat.{ℕ, zero, suc, _+_, _-_, _≤_, _<_}
 use native.Mathlib.Numerals.{add-one}
 use native.Mathlib.Omega.{arith}
-use Rattle.layout.specs.Refusal.{Row, Tested, passed, refused, first}
-use Rattle.layout.proofs.Rows.{and-then, first-append, passed-not-refused}
+use Rattle.layout.specs.Refusal.{Row, passed, refused, first}
+use Rattle.layout.proofs.Rows.{and-then, first-append}
 use Rattle.table.specs.Rows.{entryRows, entriesRows}
 
 module _ (a b : List Row) where

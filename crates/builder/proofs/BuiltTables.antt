@@ -1,15 +1,15 @@
--- What is known of a table that the builder wrote: its bytes are those of a canonical machine for what the set keeps, they pass the table check, and walking them is walking that machine. Assumes nothing.
-use mathlib.Core.Path.{_≡_, refl, sym, ap, ap₂, _∙_, subst}
+-- What is known of a table that the builder wrote: its bytes are those of a canonical machine for what the set keeps, and they pass the table check. Assumes nothing.
+use mathlib.Core.Path.{_≡_, sym, ap, ap₂, _∙_, subst}
 use mathlib.Core.Logic.{_↔_}
-use mathlib.Core.Option.{Option, none, some}
+use mathlib.Core.Option.{some}
 use mathlib.Core.Bool.{Bool, true}
 use mathlib.Core.List.{List, [], _∷_, _++_}
 use Prim.Native.Nat.{ℕ, _-_, _≤_, _<_}
 use lib.ListN.{take, drop}
 use lib.Seq.{take-at}
-use Rattle.layout.specs.Refusal.{Tested, passed, refused, first}
+use Rattle.layout.specs.Refusal.{passed, first}
 use Rattle.layout.proofs.Rows.{both-passed}
-use Rattle.machines.specs.Machine.{Machine, WellMade, onward, walk, Walks}
+use Rattle.machines.specs.Machine.{Machine, Walks}
 use Rattle.machines.specs.Canonical.{Canonical, OneTable}
 use Rattle.machines.proofs.Walk.{walk-snoc}
 use Rattle.machines.proofs.Fewest.{canonical-fewest}
@@ -27,17 +27,8 @@ use Rattle.table.specs.Bytes.{machineOf, bytesOf, sizeOf}
 use Rattle.table.specs.Rows.{tableRows, mostStates}
 use Rattle.table.specs.Writable.{Writable}
 use Rattle.table.proofs.Bytes.{machine-of-bytes, bytes-checked, bytes-length}
 use Rattle.builder.specs.declared.BuildAnswer.the-variants.{Built}
 use Rattle.builder.specs.Build.{areaRow, roomRow, earlyRows, buildRows, lengthWhen, tableWhen, BuiltAs}
-
--- machines with one table walk alike
-pub one-walk : (m n : Machine) → WellMade m → OneTable m n → (s : ℕ) → s < m .states → (p : List Bool) → walk m s p ≡ walk n s p
-one-walk m n w o s l [] = refl
-one-walk m n w o s l (x ∷ p) = ap (λ z. onward z (λ t. walk m t p)) (o .moves s x l) ∙ go (n .next s x) refl (λ t h. one-walk m n w o t h p)
-  where
-    go : (r : Option ℕ) → n .next s x ≡ r → ((t : ℕ) → t < m .states → walk m t p ≡ walk n t p) → onward r (λ t. walk m t p) ≡ onward r (λ t. walk n t p)
-    go none e ih = refl
-    go (some t) e ih = ih t (w .next-below s t x l (o .moves s x l ∙ e))
 
 module _ (s : LimitSet) (ok : SetAllowed longest s) (m : Machine) (canonical : Canonical m (KeptBy s)) where
   abbrev source : Machine
