@@ -2,18 +2,12 @@
 //!
 //! Fields and their order are those of include/floelinnet.h; tests/layout.rs holds their places fixed.
 
-pub mod compare;
-pub mod sets;
-pub mod verdict;
-
-#[cfg(feature = "builder")]
 pub mod builder;
-#[cfg(feature = "guard")]
+pub mod compare;
 pub mod guard;
-#[cfg(feature = "row")]
-pub mod row;
-#[cfg(feature = "table")]
+pub mod sets;
 pub mod table;
+pub mod verdict;
 
 macro_rules! records {
     ($($(#[$why:meta])* $name:ident { $($field:ident: $kind:ty),* })*) => {$(
@@ -41,6 +35,4 @@ records! {
     /// Answer: 0 normal, 1 panic, 2 lost.
     Asked { refused: u64, at: u64, answer: u64, guard: Guard }
     Told { refused: u64, at: u64, guard: Guard }
-    Done { refused: u64, at: u64 }
-    RowAsked { refused: u64, at: u64, answer: u64 }
 }

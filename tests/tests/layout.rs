@@ -29,6 +29,4 @@ fn answers() {
     lies!(Started, 24, 8, refused at 0, at at 8, guard at 16);
     lies!(Asked, 32, 8, refused at 0, at at 8, answer at 16, guard at 24);
     lies!(Told, 24, 8, refused at 0, at at 8, guard at 16);
-    lies!(Done, 16, 8, refused at 0, at at 8);
-    lies!(RowAsked, 24, 8, refused at 0, at at 8, answer at 16);
 }

@@ -58,12 +58,9 @@ fn tables() {
     for (limits, table) in rows {
         for &limit in limits {
             assert_eq!(bytes(&states(&[limit])), table, "{limit:?} alone");
-            #[cfg(feature = "builder")]
-            {
-                let mut room = vec![0; table.len()];
-                let built = floe::builder::build(&sets::bytes(&[limit]), &mut [0; 8192], &mut room);
-                assert_eq!((built.refused, &room[..]), (0, table), "{limit:?} alone");
-            }
+            let mut room = vec![0; table.len()];
+            let built = floe::builder::build(&sets::bytes(&[limit]), &mut [0; 8192], &mut room);
+            assert_eq!((built.refused, &room[..]), (0, table), "{limit:?} alone");
         }
     }
 }
