@@ -31,6 +31,8 @@ use Rattle.floelinnet.specs.declared.FloeChecked.{FloeChecked}
 use Rattle.floelinnet.specs.declared.FloeStarted.{FloeStarted}
 use Rattle.floelinnet.specs.declared.FloeAsked.{FloeAsked}
 use Rattle.floelinnet.specs.declared.FloeTold.{FloeTold}
+use Rattle.floelinnet.specs.declared.FloeDone.{FloeDone}
+use Rattle.floelinnet.specs.declared.FloeRowAsked.{FloeRowAsked}
 
 abbrev pub flatSetOf : SetAnswer → LimitSet → FloeSetRead
 flatSetOf set.Accepted s = record { refused = 0; at = 0; set = s }
@@ -83,3 +85,18 @@ flatToldOf (tell.Refused number at) g = record { refused = number; at = at; guar
 
 abbrev pub flatTold : Told → FloeTold
 flatTold a = flatToldOf (a .answer) (a .guard)
+
+-- a call on a row: the guards stay in the row
+abbrev pub flatRowStarted : StartAnswer → FloeDone
+flatRowStarted start.Started = record { refused = 0; at = 0 }
+flatRowStarted (start.Refused number at) = record { refused = number; at = at }
+
+abbrev pub flatRowAsked : AskAnswer → FloeRowAsked
+flatRowAsked ask.Normal = record { refused = 0; at = 0; answer = 0 }
+flatRowAsked ask.Panic = record { refused = 0; at = 0; answer = 1 }
+flatRowAsked ask.Lost = record { refused = 0; at = 0; answer = 2 }
+flatRowAsked (ask.Refused number at) = record { refused = number; at = at; answer = 0 }
+
+abbrev pub flatRowTold : TellAnswer → FloeDone
+flatRowTold tell.Told = record { refused = 0; at = 0 }
+flatRowTold (tell.Refused number at) = record { refused = number; at = at }

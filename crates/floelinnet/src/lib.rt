@@ -20,6 +20,12 @@ ghost use Rattle.floelinnet.specs.Flat.{flatSet, flatVerdict, flatCompar
 use guard::Guard;
 use meaning::LimitSet;
 
+mod row;
+
+pub use row::floe_row_ask;
+pub use row::floe_row_start;
+pub use row::floe_row_tell;
+
 #[repr(C)]
 pub struct FloeSetRead {
     pub refused: u64,
@@ -82,6 +88,20 @@ pub struct FloeTold {
     pub refused: u64,
     pub at: u64,
     pub guard: Guard,
+}
+
+#[repr(C)]
+pub struct FloeDone {
+    pub refused: u64,
+    pub at: u64,
+}
+
+// answer: 0 normal, 1 panic, 2 lost; 0 on a refusal.
+#[repr(C)]
+pub struct FloeRowAsked {
+    pub refused: u64,
+    pub at: u64,
+    pub answer: u64,
 }
 
 #[no_mangle]

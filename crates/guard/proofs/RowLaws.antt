@@ -5,6 +5,7 @@ use mathlib.Core.List.{List, _∷_}
 use Prim.Native.Nat.{ℕ}
 use native.Mathlib.Omega.{arith}
 use lib.Dec.{leb, ltb}
+use lib.ListN.{length, set, length-set}
 use lib.Seq.{getD-set-other}
 use Rattle.table.specs.Shared.{Row, row, Tested, passed, refused, first, outcome, Machine}
 use Rattle.table.specs.Bytes.{machineOf}
@@ -14,51 +15,43 @@ use Rattle.guard.specs.declared.AskAnswer.{AskAnswer}
 use Rattle.guard.specs.declared.StartAnswer.the-variants as start
 use Rattle.guard.specs.declared.TellAnswer.{TellAnswer}
 use Rattle.guard.specs.declared.TellAnswer.the-variants as tell
-use Rattle.guard.specs.declared.row.Row as guards
 use Rattle.guard.specs.Guard.{fresh, askedWhen, after, tellRows, toldWhen}
-use Rattle.guard.specs.Row.{mostGuards, guardAt, withGuard, ChangesOnly, rowStartRows, rowStartedWhen, rowStartedOf, rowAskRows, rowAskedWhen, rowAskedOf, rowTellRows, rowToldWhen, rowToldOf}
+use Rattle.guard.specs.Row.{mostGuards, guardAt, ChangesOnly, rowStartRows, rowStartedWhen, rowStartedOf, rowAskRows, rowAskedWhen, rowAskedOf, rowTellRows, rowToldWhen, rowToldOf}
 
-unchanged : (r : guards.Row) (job : ℕ) → ChangesOnly job r r
+unchanged : (r : List Guard) (job : ℕ) → ChangesOnly job r r
 unchanged r job = record { count = refl; others = λ other d. refl }
 
-one-changed : (r : guards.Row) (job : ℕ) (g : Guard) → ChangesOnly job r (withGuard r job g)
-one-changed r job g = record { count = refl; others = λ other d. getD-set-other (r .guards) job other g fresh d }
+one-changed : (r : List Guard) (job : ℕ) (g : Guard) → ChangesOnly job r (set r job g)
+one-changed r job g = record { count = length-set r job g; others = λ other d. getD-set-other r job other g fresh d }
 
-module _ (r : guards.Row) (job : ℕ) (b : List ℕ) where
-  pub others-stay-at-start : ChangesOnly job r (rowStartedOf r job b .row)
+module _ (r : List Guard) (job : ℕ) (b : List ℕ) where
+  pub others-stay-at-start : ChangesOnly job r (rowStartedOf r job b .1)
   others-stay-at-start = go (first (rowStartRows r job b))
     where
-      go : (t : Tested) → ChangesOnly job r (rowStartedWhen t r job .row)
+      go : (t : Tested) → ChangesOnly job r (rowStartedWhen t r job .1)
       go passed = one-changed r job fresh
       go (refused number at) = unchanged r job
 
-  pub others-stay-at-tell : (byte : ℕ) → ChangesOnly job r (rowToldOf r job b byte .row)
+  pub others-stay-at-tell : (byte : ℕ) → ChangesOnly job r (rowToldOf r job b byte .1)
   others-stay-at-tell byte = go (first (rowTellRows r job b byte))
     where
-      go : (t : Tested) → ChangesOnly job r (rowToldWhen t (machineOf b) r job (outcome byte) .row)
+      go : (t : Tested) → ChangesOnly job r (rowToldWhen t (machineOf b) r job (outcome byte) .1)
       go passed = one-changed r job (after (machineOf b) (guardAt r job) (outcome byte))
       go (refused number at) = unchanged r job
 
-  pub refused-start-leaves-row : {number at : ℕ} → rowStartedOf r job b .answer ≡ start.Refused number at → rowStartedOf r job b .row ≡ r
+  pub refused-start-leaves-row : {number at : ℕ} → rowStartedOf r job b .0 ≡ start.Refused number at → rowStartedOf r job b .1 ≡ r
   refused-start-leaves-row {number} {at} = go (first (rowStartRows r job b))
     where
-      go : (t : Tested) → rowStartedWhen t r job .answer ≡ start.Refused number at → rowStartedWhen t r job .row ≡ r
+      go : (t : Tested) → rowStartedWhen t r job .0 ≡ start.Refused number at → rowStartedWhen t r job .1 ≡ r
       go passed e = let z : _≡_ {A = ℕ} 0 1 = cc in absurd (omega arith)
       go (refused n v) e = refl
 
-  pub refused-tell-leaves-row : (byte : ℕ) {number at : ℕ} → rowToldOf r job b byte .answer ≡ tell.Refused number at → rowToldOf r job b byte .row ≡ r
+  pub refused-tell-leaves-row : (byte : ℕ) {number at : ℕ} → rowToldOf r job b byte .0 ≡ tell.Refused number at → rowToldOf r job b byte .1 ≡ r
   refused-tell-leaves-row byte {number} {at} = go (first (rowTellRows r job b byte)) (machineOf b)
     where
-      go : (t : Tested) (m : Machine) → let u = rowToldWhen t m r job (outcome byte) in u .answer ≡ tell.Refused number at → u .row ≡ r
+      go : (t : Tested) (m : Machine) → let u = rowToldWhen t m r job (outcome byte) in u .0 ≡ tell.Refused number at → u .1 ≡ r
       go passed m e = let z : _≡_ {A = ℕ} 0 1 = cc in absurd (omega arith)
       go (refused n v) m e = refl
-
-  pub ask-leaves-row : rowAskedOf r job b .row ≡ r
-  ask-leaves-row = go (first (rowAskRows r job b))
-    where
-      go : (t : Tested) → rowAskedWhen t (machineOf b) r job .row ≡ r
-      go passed = refl
-      go (refused number at) = refl
 
 -- what a job hears depends on the count and on its own guard only
 module _ (b : List ℕ) (other : ℕ) where
@@ -71,23 +64,23 @@ module _ (b : List ℕ) (other : ℕ) where
   abbrev isTold : ℕ → ℕ → Guard → TellAnswer
   isTold byte count g = toldWhen (first (rows count (tellRows b g byte))) (machineOf b) g (outcome byte) .answer
 
-  hears-own : (r : guards.Row) → rowAskedOf r other b .answer ≡ hears (r .count) (guardAt r other)
+  hears-own : (r : List Guard) → rowAskedOf r other b ≡ hears (length r) (guardAt r other)
   hears-own r = go (first (rowAskRows r other b))
     where
-      go : (t : Tested) → rowAskedWhen t (machineOf b) r other .answer ≡ askedWhen t (machineOf b) (guardAt r other) .answer
+      go : (t : Tested) → rowAskedWhen t (machineOf b) r other ≡ askedWhen t (machineOf b) (guardAt r other) .answer
       go passed = refl
       go (refused number at) = refl
 
-  told-own : (r : guards.Row) (byte : ℕ) → rowToldOf r other b byte .answer ≡ isTold byte (r .count) (guardAt r other)
+  told-own : (r : List Guard) (byte : ℕ) → rowToldOf r other b byte .0 ≡ isTold byte (length r) (guardAt r other)
   told-own r byte = go (first (rowTellRows r other b byte)) (outcome byte)
     where
-      go : (t : Tested) (o : Bool) → rowToldWhen t (machineOf b) r other o .answer ≡ toldWhen t (machineOf b) (guardAt r other) o .answer
+      go : (t : Tested) (o : Bool) → rowToldWhen t (machineOf b) r other o .0 ≡ toldWhen t (machineOf b) (guardAt r other) o .answer
       go passed o = refl
       go (refused number at) o = refl
 
-  module _ (job : ℕ) (r r′ : guards.Row) (c : ChangesOnly job r r′) (d : other ≡ job → ⊥) where
-    pub others-hear-the-same : rowAskedOf r′ other b .answer ≡ rowAskedOf r other b .answer
+  module _ (job : ℕ) (r r′ : List Guard) (c : ChangesOnly job r r′) (d : other ≡ job → ⊥) where
+    pub others-hear-the-same : rowAskedOf r′ other b ≡ rowAskedOf r other b
     others-hear-the-same = hears-own r′ ∙ ap₂ hears (c .count) (c .others other d) ∙ sym (hears-own r)
 
-    pub others-are-told-the-same : (byte : ℕ) → rowToldOf r′ other b byte .answer ≡ rowToldOf r other b byte .answer
+    pub others-are-told-the-same : (byte : ℕ) → rowToldOf r′ other b byte .0 ≡ rowToldOf r other b byte .0
     others-are-told-the-same byte = told-own r′ byte ∙ ap₂ (isTold byte) (c .count) (c .others other d) ∙ sym (told-own r byte)

@@ -1,17 +1,13 @@
 // A guard walks a table as outcomes are told, and says before each job whether a miss is still allowed.
 // Starting refuses by 10 to 12; ask and tell by 10, 11 and what of 12 concerns the guard's state, tell then by 13.
+// The row's calls refuse by 14 first.
 ghost use mathlib.Core.Path.{_≡_};
 ghost use mathlib.Core.Bool.{false};
 ghost use Rattle.table.specs.Check.{moveBy};
 ghost use Rattle.guard.specs.Guard.{startedOf, answerBy, askedOf, afterBy, toldOf};
 
-mod row;
+pub mod row;
 
-pub use row::MOST_GUARDS;
-pub use row::Row;
-pub use row::RowAsked;
-pub use row::RowStarted;
-pub use row::RowTold;
 use table::Looked;
 use table::Moves;
 use table::TableAnswer;

@@ -1,9 +1,7 @@
-// Runs the vectors on standard input through the table check, guards and rows of guards, one vector a line.
+// Runs the vectors on standard input through the table check and guards, one vector a line.
 // Each line is printed as it stands, then ` = ` and the answers. Comments begin with `#`; they and empty lines have none.
 // `t TABLE` checks a table. `g TABLE ACTIONS` drives a guard in state 0; `h TABLE STATE LOST ACTIONS` drives one made by hand.
-// `w TABLE COUNT ACTIONS` drives a new row; a second table, and actions on it, may follow.
 mod answers;
-mod row;
 mod single;
 mod tables;
 
@@ -19,10 +17,6 @@ fn answer(line: &[u8], command: u8) {
     }
     if command == b'h' {
         single::try_by_hand(line);
-        return;
-    }
-    if command == b'w' {
-        row::try_row(line);
         return;
     }
     vectors::print(b"no such command");

@@ -5,7 +5,7 @@ use crate::tables;
 use guard::Guard;
 
 // The outcome byte that an action tells; no digit stands for 255, so `x` does.
-pub fn outcome(action: u8) -> u8 {
+fn outcome(action: u8) -> u8 {
     if action == b'x' {
         return 255;
     }
