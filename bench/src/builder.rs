@@ -61,10 +61,9 @@ fn figure(figures: &mut Figures, what: &str, set: &[Limit]) {
     let (mut work, mut table) = (vec![0; 8192], vec![0; 8199]);
     let length = build(&set, &mut work, &mut table);
     assert_eq!(plain::builder::build(&set).as_deref(), Ok(&table[..length]));
-    let times =
-        side_by_side(&mut [&mut || use_up(build(black_box(&set), &mut work, &mut table)), &mut || {
-            use_up(plain::builder::build(black_box(&set)))
-        }]);
+    let times = side_by_side(&mut [&mut || use_up(build(black_box(&set), &mut work, &mut table)), &mut || {
+        use_up(plain::builder::build(black_box(&set)))
+    }]);
     figures.add(Figure {
         what,
         input: &input,

@@ -70,6 +70,16 @@ pub fn faulty_set(draw: &mut Draw) -> Vec<u8> {
     bytes
 }
 
+/// Bytes of a set that are mostly refused, by faults of either kind.
+pub fn spoilt_set(draw: &mut Draw) -> Vec<u8> {
+    if draw.one_in(2) {
+        return faulty_set(draw);
+    }
+    let mut set = sets::bytes(&draw.set());
+    damage(draw, &mut set);
+    set
+}
+
 /// Bytes shaped like a table of up to `most` states, whose next states are mostly, but not all, below n.
 pub fn drawn_table(draw: &mut Draw, most: usize) -> Vec<u8> {
     let n = 1 + draw.below(most);

@@ -72,23 +72,28 @@ pub fn guard(guard: Guard) -> floe::Guard {
     floe::Guard { state: guard.state, lost: guard.lost }
 }
 
-/// The first two fields of an answer.
-fn refused(answer: Result<(), Refusal>) -> (u64, u64) {
-    answer.map_or_else(numbers, |()| (0, 0))
+pub fn done(answer: Result<(), Refusal>) -> floe::Done {
+    let (refused, at) = answer.map_or_else(numbers, |()| (0, 0));
+    floe::Done { refused, at }
 }
 
 pub fn started(answer: Result<Guard, Refusal>) -> floe::Started {
-    let (refused, at) = refused(answer.map(drop));
+    let floe::Done { refused, at } = done(answer.map(drop));
     floe::Started { refused, at, guard: answer.map(guard).unwrap_or_default() }
 }
 
 /// "A refusal ... returns a guard unchanged": `before` is the guard that went in.
 pub fn told(before: Guard, answer: Result<Guard, Refusal>) -> floe::Told {
-    let (refused, at) = refused(answer.map(drop));
+    let floe::Done { refused, at } = done(answer.map(drop));
     floe::Told { refused, at, guard: guard(answer.unwrap_or(before)) }
 }
 
+pub fn row_asked(answer: Result<Answer, Refusal>) -> floe::RowAsked {
+    let floe::Done { refused, at } = done(answer.map(drop));
+    floe::RowAsked { refused, at, answer: answer.map_or(0, |answer| answer as u64) }
+}
+
 pub fn asked(before: Guard, answer: Result<Answer, Refusal>) -> floe::Asked {
-    let (refused, at) = refused(answer.map(drop));
-    floe::Asked { refused, at, answer: answer.map_or(0, |answer| answer as u64), guard: guard(before) }
+    let floe::RowAsked { refused, at, answer } = row_asked(answer);
+    floe::Asked { refused, at, answer, guard: guard(before) }
 }

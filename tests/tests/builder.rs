@@ -1,6 +1,6 @@
 //! floe_build against the reference, with everything that was lent looked at afterwards.
 
-use floelinnet_tests::damage::{damage, faulty_set};
+use floelinnet_tests::damage::spoilt_set;
 use floelinnet_tests::draw::{cases, Draw};
 use floelinnet_tests::reference::limits::allowed_limits;
 use floelinnet_tests::reference::{sets, table};
@@ -59,13 +59,9 @@ fn random_sets_and_rooms() {
 fn refused_sets_and_work_areas() {
     let mut draw = Draw::new(43);
     let mut seen = [0; 10];
-    for round in 0..cases(4_000) {
-        let mut set = faulty_set(&mut draw);
-        if round % 2 == 0 {
-            set = sets::bytes(&draw.set());
-            damage(&mut draw, &mut set);
-        }
-        let entries = draw.of(&[0, 1, WORK_ENTRIES - 1]);
+    for _ in 0..cases(4_000) {
+        let set = spoilt_set(&mut draw);
+        let entries = draw.of(&[0, 1, WORK_ENTRIES - 1, WORK_ENTRIES]);
         let room = draw.of(&[0, 7, 100]);
         seen[agree(&mut draw, &set, entries, room) as usize] += 1;
     }

@@ -4,6 +4,7 @@ use floelinnet_tests::damage::{damage, drawn_table};
 use floelinnet_tests::draw::{cases, Draw};
 use floelinnet_tests::pages::pages;
 use floelinnet_tests::reference::guard::{ask, start, tell, Answer, Guard, FRESH};
+use floelinnet_tests::reference::limits::allowed_limits;
 use floelinnet_tests::reference::table;
 use floelinnet_tests::{expected, floe};
 
@@ -46,12 +47,13 @@ fn any_table_any_guard_any_outcome() {
     assert!([0, 10, 11, 12, 13].iter().all(|&number| seen[number] > 100), "{seen:?}");
 }
 
-/// On the table of a set a guard that was told a pattern says what the meaning of kept says of it.
+/// On the table of a set a guard that was told a pattern says what the meaning of kept says of it: every limit alone,
+/// then sets by chance.
 #[test]
 fn all_short_patterns_on_tables_of_sets() {
     let mut draw = Draw::new(62);
-    for _ in 0..cases(60) {
-        let limits = draw.set();
+    let alone = allowed_limits().into_iter().map(|limit| vec![limit]);
+    for limits in alone.chain((0..cases(60)).map(|_| draw.set())) {
         let table = table::bytes(&table::states(&limits));
         agree_on_start(&table);
         let verdicts = pages().verdicts(&limits);

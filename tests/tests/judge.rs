@@ -1,6 +1,6 @@
 //! floe_judge against the reference.
 
-use floelinnet_tests::damage::{damage, faulty_set};
+use floelinnet_tests::damage::spoilt_set;
 use floelinnet_tests::draw::{cases, Draw};
 use floelinnet_tests::pages::pages;
 use floelinnet_tests::reference::limits::{allowed_limits, keeps, set_keeps, Limit};
@@ -137,12 +137,8 @@ fn outcome_bytes_that_are_no_outcomes() {
 fn faults_in_the_set_and_in_the_pattern() {
     let mut draw = Draw::new(15);
     let mut seen = [0; 14];
-    for round in 0..cases(300_000) {
-        let mut set = faulty_set(&mut draw);
-        if round % 2 == 0 {
-            set = sets::bytes(&draw.set());
-            damage(&mut draw, &mut set);
-        }
+    for _ in 0..cases(300_000) {
+        let set = spoilt_set(&mut draw);
         let jobs = draw.below(16);
         let mut pattern = draw.pattern(jobs, 2);
         if !pattern.is_empty() && draw.one_in(2) {

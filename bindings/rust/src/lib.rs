@@ -1,0 +1,75 @@
+//! Weakly-hard limits, "so many deadlines met in any so many": a safe face of the Floelinnet archive.
+//!
+//! Each function is one call of the proved library and a translation of its answer: slices go in, values come out, and
+//! what the library refuses is an [`Err`] with the number of the refusal. The crate tests nothing and rules nothing by
+//! itself. It keeps no state, allocates nothing and needs no standard library.
+//!
+//! An outcome is a byte, [`HIT`] or [`MISS`]; a pattern is a slice of them, oldest first. Sets of limits and tables are
+//! slices too, with the bytes that [`read_set`] and [`build`] describe.
+//!
+//! | to | call |
+//! |---|---|
+//! | read a set of limits | [`read_set`] |
+//! | judge a pattern that is over | [`judge`] |
+//! | see whether one set demands as much as another | [`compare`] |
+//! | guard jobs while they run | [`build`] once, then [`Guard`], or [`row`] for several jobs |
+//! | check a table that comes from elsewhere | [`check_table`] |
+//!
+//! ```
+//! use floelinnet::{build, Answer, Guard, Refused, LONGEST_TABLE, MISS, WORK_ENTRIES};
+//!
+//! // At most 2 misses in any 8, and never 2 in a row: AnyMiss(2,8), RowMiss(1).
+//! let set = [0, 0, 0, 8, 1, 2, 2, 2, 8, 3, 1, 0];
+//! let mut table = [0; LONGEST_TABLE];
+//! let length = build(&set, &mut [0; WORK_ENTRIES], &mut table)?;
+//! let table = &table[..length];
+//!
+//! let mut guard = Guard::start(table)?;
+//! assert_eq!(guard.ask(table)?, Answer::Normal);
+//! guard = guard.tell(table, MISS)?;
+//! assert_eq!(guard.ask(table)?, Answer::Panic);
+//! guard = guard.tell(table, MISS)?;
+//! assert_eq!(guard.ask(table)?, Answer::Lost);
+//! # Ok::<(), Refused>(())
+//! ```
+//!
+//! The build script links `libfloelinnet.a` from the folder that `FLOELINNET_ARCHIVE_DIR` names, else from the
+//! repository's `target/staticlib` or `dist/lib`.
+
+#![no_std]
+#![deny(missing_docs)]
+
+mod compare;
+mod guard;
+pub mod raw;
+mod refused;
+pub mod row;
+mod sets;
+mod table;
+mod verdict;
+
+pub use compare::{compare, Comparison, Pattern, RefusedSet};
+pub use guard::Answer;
+pub use raw::Guard;
+pub use refused::Refused;
+pub use sets::{read_set, Limit, LimitSet};
+pub use table::{build, check_table};
+pub use verdict::{judge, Verdict};
+
+/// A deadline that was missed.
+pub const MISS: u8 = 0;
+/// A deadline that was met.
+pub const HIT: u8 = 1;
+/// How many entries of 16 bits [`build`] needs to work.
+pub const WORK_ENTRIES: usize = 8192;
+/// The length in bytes of the longest table.
+pub const LONGEST_TABLE: usize = 8199;
+/// How many guards a row has at the most.
+pub const MOST_GUARDS: usize = 16;
+
+/// A number that the library's proofs leave no room for. Whatever was answered instead would be a rule of this crate's
+/// own, so the call ends here.
+#[cold]
+fn no_such(what: &str, number: u64) -> ! {
+    panic!("the archive is not Floelinnet's: it has no {what} {number}")
+}

@@ -1,0 +1,200 @@
+//! The archive as it is: its records, and for each of its functions a safe call that takes slices and gives the flat
+//! record back.
+//!
+//! Names, fields and their order are those of `include/floelinnet.h`. This is the one place where Rust declares them,
+//! and the only one with unsafe code.
+
+/// A limit: its kind, and its numbers as the kind takes them.
+#[repr(C)]
+#[derive(Clone, Copy, Default, PartialEq, Eq, Debug)]
+pub struct Limit {
+    /// 0 AnyHit, 1 RowHit, 2 AnyMiss, 3 RowMiss.
+    pub kind: u8,
+    /// The bound.
+    pub x: u8,
+    /// The window's length; 0 for RowMiss.
+    pub k: u8,
+}
+
+/// A set of limits.
+#[repr(C)]
+#[derive(Clone, Copy, Default, PartialEq, Eq, Debug)]
+pub struct Set {
+    /// How many limits it has.
+    pub count: u64,
+    /// The limits; places from `count` on hold zeros.
+    pub limits: [Limit; 8],
+}
+
+/// Where one job stands on its table. It belongs to the table that it was started on; to copy it is to copy the job's
+/// standing. The default is a guard with nothing told, which is what a new row holds.
+#[repr(C)]
+#[derive(Clone, Copy, Default, PartialEq, Eq, Hash, Debug)]
+pub struct Guard {
+    /// The number of its state in the table.
+    pub state: u16,
+    /// Whether a miss was told in panic.
+    pub lost: bool,
+}
+
+/// The answers, which all begin with the same two fields.
+macro_rules! answers {
+    ($($(#[$says:meta])* $name:ident { $($(#[$holds:meta])* $field:ident: $kind:ty),* $(,)? })*) => {$(
+        $(#[$says])*
+        #[repr(C)]
+        #[derive(Clone, Copy, Default, PartialEq, Eq, Debug)]
+        pub struct $name {
+            /// 0, or the number of the refusal.
+            pub refused: u64,
+            /// What is returned beside that number, else 0.
+            pub at: u64,
+            $($(#[$holds])* pub $field: $kind,)*
+        }
+    )*};
+}
+
+answers! {
+    /// What [`read_set`] answers.
+    SetRead {
+        /// The set; of count 0 on a refusal.
+        set: Set,
+    }
+    /// What [`judge`] answers.
+    Verdict {
+        /// The job, from 1, at which the pattern is lost; 0 where it is kept.
+        job: u64,
+        /// The lowest-numbered limit, from 0, that doesn't keep the pattern up to that job.
+        limit: u64,
+    }
+    /// What [`compare`] answers.
+    Comparison {
+        /// The set that is refused, 1 or 2; 0 where none is.
+        which: u64,
+        /// 1 where the first set covers the second.
+        covers: u64,
+        /// The length of the pattern between them.
+        length: u64,
+        /// That pattern; places from `length` on are 0.
+        pattern: [u8; 16],
+    }
+    /// What [`build`] answers.
+    Built {
+        /// The table's length in bytes.
+        length: u64,
+    }
+    /// What [`check_table`] answers.
+    Checked {
+        /// How many states the table has.
+        states: u64,
+    }
+    /// What [`guard_start`] answers.
+    Started {
+        /// A guard with nothing told, on a refusal too.
+        guard: Guard,
+    }
+    /// What [`guard_ask`] answers.
+    Asked {
+        /// 0 normal, 1 panic, 2 lost.
+        answer: u64,
+        /// The guard as it was handed in.
+        guard: Guard,
+    }
+    /// What [`guard_tell`] answers.
+    Told {
+        /// The guard to go on with; on a refusal the one handed in.
+        guard: Guard,
+    }
+    /// What [`row_start`] and [`row_tell`] answer.
+    Done {}
+    /// What [`row_ask`] answers.
+    RowAsked {
+        /// 0 normal, 1 panic, 2 lost.
+        answer: u64,
+    }
+}
+
+extern "C" {
+    fn floe_read_set(set: *const u8, set_len: usize) -> SetRead;
+    fn floe_judge(set: *const u8, set_len: usize, pattern: *const u8, pattern_len: usize) -> Verdict;
+    fn floe_compare(first: *const u8, first_len: usize, second: *const u8, second_len: usize) -> Comparison;
+    fn floe_build(
+        set: *const u8,
+        set_len: usize,
+        work: *mut u16,
+        work_len: usize,
+        table: *mut u8,
+        table_len: usize,
+    ) -> Built;
+    fn floe_check_table(table: *const u8, table_len: usize) -> Checked;
+    fn floe_guard_start(table: *const u8, table_len: usize) -> Started;
+    fn floe_guard_ask(guard: Guard, table: *const u8, table_len: usize) -> Asked;
+    fn floe_guard_tell(guard: Guard, table: *const u8, table_len: usize, outcome: u8) -> Told;
+    fn floe_row_start(row: *mut Guard, count: usize, job: usize, table: *const u8, table_len: usize) -> Done;
+    fn floe_row_ask(row: *const Guard, count: usize, job: usize, table: *const u8, table_len: usize) -> RowAsked;
+    fn floe_row_tell(
+        row: *mut Guard,
+        count: usize,
+        job: usize,
+        table: *const u8,
+        table_len: usize,
+        outcome: u8,
+    ) -> Done;
+}
+
+// SAFETY, for every call below: a slice's pointer isn't null, is aligned and is valid for the slice's length, an empty
+// one's too; and what a `&mut` slice lends overlaps nothing else. The header asks for no more.
+
+/// `floe_read_set`.
+pub fn read_set(set: &[u8]) -> SetRead {
+    unsafe { floe_read_set(set.as_ptr(), set.len()) }
+}
+
+/// `floe_judge`.
+pub fn judge(set: &[u8], pattern: &[u8]) -> Verdict {
+    unsafe { floe_judge(set.as_ptr(), set.len(), pattern.as_ptr(), pattern.len()) }
+}
+
+/// `floe_compare`.
+pub fn compare(first: &[u8], second: &[u8]) -> Comparison {
+    unsafe { floe_compare(first.as_ptr(), first.len(), second.as_ptr(), second.len()) }
+}
+
+/// `floe_build`.
+pub fn build(set: &[u8], work: &mut [u16], table: &mut [u8]) -> Built {
+    unsafe { floe_build(set.as_ptr(), set.len(), work.as_mut_ptr(), work.len(), table.as_mut_ptr(), table.len()) }
+}
+
+/// `floe_check_table`.
+pub fn check_table(table: &[u8]) -> Checked {
+    unsafe { floe_check_table(table.as_ptr(), table.len()) }
+}
+
+/// `floe_guard_start`.
+pub fn guard_start(table: &[u8]) -> Started {
+    unsafe { floe_guard_start(table.as_ptr(), table.len()) }
+}
+
+/// `floe_guard_ask`.
+pub fn guard_ask(guard: Guard, table: &[u8]) -> Asked {
+    unsafe { floe_guard_ask(guard, table.as_ptr(), table.len()) }
+}
+
+/// `floe_guard_tell`.
+pub fn guard_tell(guard: Guard, table: &[u8], outcome: u8) -> Told {
+    unsafe { floe_guard_tell(guard, table.as_ptr(), table.len(), outcome) }
+}
+
+/// `floe_row_start`.
+pub fn row_start(row: &mut [Guard], job: usize, table: &[u8]) -> Done {
+    unsafe { floe_row_start(row.as_mut_ptr(), row.len(), job, table.as_ptr(), table.len()) }
+}
+
+/// `floe_row_ask`.
+pub fn row_ask(row: &[Guard], job: usize, table: &[u8]) -> RowAsked {
+    unsafe { floe_row_ask(row.as_ptr(), row.len(), job, table.as_ptr(), table.len()) }
+}
+
+/// `floe_row_tell`.
+pub fn row_tell(row: &mut [Guard], job: usize, table: &[u8], outcome: u8) -> Done {
+    unsafe { floe_row_tell(row.as_mut_ptr(), row.len(), job, table.as_ptr(), table.len(), outcome) }
+}

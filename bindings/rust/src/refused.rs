@@ -1,0 +1,141 @@
+use core::error::Error;
+use core::fmt;
+
+/// Why a call was refused. The tests are made in the order of the numbers, and the first that applies is given.
+#[derive(Clone, Copy, PartialEq, Eq, Hash, Debug)]
+pub enum Refused {
+    /// 1: the set has fewer than 6 bytes, or its length field isn't the count of bytes after it.
+    SetLength,
+    /// 2: the set's version isn't 1.
+    SetVersion,
+    /// 3: the set's count of limits is 0 or above 8.
+    LimitCount,
+    /// 4: the set's length field isn't 2 + 3 times its count of limits.
+    LimitsLength,
+    /// 5: the kind of this limit, counted from 0, is above 3.
+    LimitKind {
+        /// The number of the limit.
+        limit: usize,
+    },
+    /// 6: the k of this limit, counted from 0, is outside its range.
+    LimitK {
+        /// The number of the limit.
+        limit: usize,
+    },
+    /// 7: the x of this limit, counted from 0, is outside its range.
+    LimitX {
+        /// The number of the limit.
+        limit: usize,
+    },
+    /// 8: the work area has fewer than [`WORK_ENTRIES`](crate::WORK_ENTRIES) entries.
+    WorkLength,
+    /// 9: the table buffer is shorter than the table.
+    TableRoom {
+        /// The length in bytes that is needed.
+        needed: usize,
+    },
+    /// 10: the table has fewer than 7 bytes, or its length field isn't the count of bytes after it.
+    TableLength,
+    /// 11: the table's version isn't 1.
+    TableVersion,
+    /// 12: the table's count of states n is 0 or above 2048, its length field isn't 3 + 4n, a next state is n or more
+    /// (FF FF on a miss excepted), or the guard's state is n or more.
+    States,
+    /// 13: an outcome byte is neither 0 nor 1.
+    Outcome {
+        /// Its place in the pattern, from 0; 0 in a tell.
+        place: usize,
+    },
+    /// 14: the job's number, from 0, isn't below the row's count of guards, or the row has more than
+    /// [`MOST_GUARDS`](crate::MOST_GUARDS).
+    Job,
+}
+
+impl Refused {
+    /// The number of the refusal, 1 to 14.
+    pub fn number(self) -> u8 {
+        match self {
+            Refused::SetLength => 1,
+            Refused::SetVersion => 2,
+            Refused::LimitCount => 3,
+            Refused::LimitsLength => 4,
+            Refused::LimitKind { .. } => 5,
+            Refused::LimitK { .. } => 6,
+            Refused::LimitX { .. } => 7,
+            Refused::WorkLength => 8,
+            Refused::TableRoom { .. } => 9,
+            Refused::TableLength => 10,
+            Refused::TableVersion => 11,
+            Refused::States => 12,
+            Refused::Outcome { .. } => 13,
+            Refused::Job => 14,
+        }
+    }
+
+    /// What is returned beside the number: a limit's number, the length needed or an outcome's place, else 0.
+    pub fn at(self) -> usize {
+        match self {
+            Refused::LimitKind { limit } | Refused::LimitK { limit } | Refused::LimitX { limit } => limit,
+            Refused::TableRoom { needed } => needed,
+            Refused::Outcome { place } => place,
+            _ => 0,
+        }
+    }
+}
+
+/// The number of the refusal, then what is wrong.
+impl fmt::Display for Refused {
+    fn fmt(&self, f: &mut fmt::Formatter<'_>) -> fmt::Result {
+        write!(f, "refusal {}: ", self.number())?;
+        match self {
+            Refused::SetLength => {
+                f.write_str("the set has fewer than 6 bytes, or its length field isn't the count of bytes after it")
+            }
+            Refused::SetVersion => f.write_str("the set's version isn't 1"),
+            Refused::LimitCount => f.write_str("the set's count of limits is 0 or above 8"),
+            Refused::LimitsLength => f.write_str("the set's length field isn't 2 + 3 times its count of limits"),
+            Refused::LimitKind { limit } => write!(f, "the kind of limit {limit} is above 3"),
+            Refused::LimitK { limit } => write!(f, "the k of limit {limit} is outside its range"),
+            Refused::LimitX { limit } => write!(f, "the x of limit {limit} is outside its range"),
+            Refused::WorkLength => f.write_str("the work area has fewer than 8192 entries"),
+            Refused::TableRoom { needed } => write!(f, "the table buffer is shorter than {needed} bytes"),
+            Refused::TableLength => {
+                f.write_str("the table has fewer than 7 bytes, or its length field isn't the count of bytes after it")
+            }
+            Refused::TableVersion => f.write_str("the table's version isn't 1"),
+            Refused::States => f.write_str(
+                "the table's count of states is 0 or above 2048, its length field isn't 3 + 4 times that count, \
+                 or a next state or the guard's state isn't below it",
+            ),
+            Refused::Outcome { place } => write!(f, "the outcome at place {place} is neither 0 nor 1"),
+            Refused::Job => {
+                f.write_str("the job's number isn't below the row's count of guards, or the row has more than 16")
+            }
+        }
+    }
+}
+
+impl Error for Refused {}
+
+/// The first two fields of an answer.
+pub(crate) fn accepted(refused: u64, at: u64) -> Result<(), Refused> {
+    let at = at as usize;
+    Err(match refused {
+        0 => return Ok(()),
+        1 => Refused::SetLength,
+        2 => Refused::SetVersion,
+        3 => Refused::LimitCount,
+        4 => Refused::LimitsLength,
+        5 => Refused::LimitKind { limit: at },
+        6 => Refused::LimitK { limit: at },
+        7 => Refused::LimitX { limit: at },
+        8 => Refused::WorkLength,
+        9 => Refused::TableRoom { needed: at },
+        10 => Refused::TableLength,
+        11 => Refused::TableVersion,
+        12 => Refused::States,
+        13 => Refused::Outcome { place: at },
+        14 => Refused::Job,
+        number => crate::no_such("refusal", number),
+    })
+}

@@ -1,0 +1,50 @@
+use core::fmt;
+
+use crate::refused::accepted;
+use crate::{raw, Refused};
+
+/// What [`judge`] says of a pattern.
+#[derive(Clone, Copy, PartialEq, Eq, Hash, Debug)]
+pub enum Verdict {
+    /// With endless hits before and after the pattern, every window of every limit holds.
+    Kept,
+    /// It isn't kept.
+    Lost {
+        /// The length of its shortest beginning that isn't kept: the job, from 1, at which it is lost.
+        job: usize,
+        /// The lowest number, from 0, of a limit that doesn't keep that beginning.
+        limit: usize,
+    },
+}
+
+/// As `kept`, and `lost at job 4 by limit 0`.
+impl fmt::Display for Verdict {
+    fn fmt(&self, f: &mut fmt::Formatter<'_>) -> fmt::Result {
+        match self {
+            Verdict::Kept => f.write_str("kept"),
+            Verdict::Lost { job, limit } => write!(f, "lost at job {job} by limit {limit}"),
+        }
+    }
+}
+
+/// Judges a pattern of outcomes, oldest first, under the set in these bytes.
+///
+/// Refuses by 1 to 7 for the set, then by 13 for the pattern, even if it is lost before the outcome that is none.
+///
+/// ```
+/// use floelinnet::{judge, Refused, Verdict};
+///
+/// let any_hit_1_of_2 = [0, 0, 0, 5, 1, 1, 0, 1, 2];
+/// assert_eq!(judge(&any_hit_1_of_2, &[1, 0, 1, 0])?, Verdict::Kept);
+/// assert_eq!(judge(&any_hit_1_of_2, &[1, 1, 0, 0, 1])?, Verdict::Lost { job: 4, limit: 0 });
+/// assert_eq!(judge(&any_hit_1_of_2, &[0, 0, 2]), Err(Refused::Outcome { place: 2 }));
+/// # Ok::<(), Refused>(())
+/// ```
+pub fn judge(set: &[u8], pattern: &[u8]) -> Result<Verdict, Refused> {
+    let raw::Verdict { refused, at, job, limit } = raw::judge(set, pattern);
+    accepted(refused, at)?;
+    Ok(match job {
+        0 => Verdict::Kept,
+        _ => Verdict::Lost { job: job as usize, limit: limit as usize },
+    })
+}

@@ -1,0 +1,93 @@
+//! Every answer once through the safe face.
+
+use floelinnet::*;
+
+/// AnyHit(1,2), RowHit(2,4), AnyMiss(1,3), RowMiss(2).
+const ALL_KINDS: [u8; 18] = [0, 0, 0, 14, 1, 4, 0, 1, 2, 1, 2, 4, 2, 1, 3, 3, 2, 0];
+/// After a miss two hits.
+const TABLE: [u8; 19] = [0, 0, 0, 15, 1, 0, 3, 0, 1, 0, 0, 0xFF, 0xFF, 0, 2, 0xFF, 0xFF, 0, 0];
+
+#[test]
+fn of_read_set() {
+    let set = read_set(&ALL_KINDS).unwrap();
+    assert_eq!(set.limits().len(), 4);
+    let kinds = [
+        Limit::AnyHit { x: 1, k: 2 },
+        Limit::RowHit { x: 2, k: 4 },
+        Limit::AnyMiss { x: 1, k: 3 },
+        Limit::RowMiss { x: 2 },
+    ];
+    assert!(set.limits().eq(kinds), "{set:?}");
+    let names: Vec<String> = set.limits().map(|limit| limit.to_string()).collect();
+    assert_eq!(names, ["AnyHit(1,2)", "RowHit(2,4)", "AnyMiss(1,3)", "RowMiss(2)"]);
+}
+
+#[test]
+fn of_judge() {
+    assert_eq!(judge(&ALL_KINDS, &[]), Ok(Verdict::Kept));
+    assert_eq!(judge(&ALL_KINDS, &[1, 0, 1, 1, 0]).unwrap().to_string(), "kept");
+    let lost = judge(&ALL_KINDS, &[1, 1, 0, 1, 0]).unwrap();
+    assert_eq!(lost, Verdict::Lost { job: 5, limit: 1 });
+    assert_eq!(lost.to_string(), "lost at job 5 by limit 1");
+}
+
+#[test]
+fn of_compare() {
+    let any_miss_2_of_5 = [0, 0, 0, 5, 1, 1, 2, 2, 5];
+    let any_miss_3_of_7 = [0, 0, 0, 5, 1, 1, 2, 3, 7];
+    assert_eq!(compare(&any_miss_2_of_5, &any_miss_2_of_5), Ok(Comparison::Covers));
+    let between = |a, b| match compare(a, b) {
+        Ok(Comparison::Between(pattern)) => pattern,
+        other => panic!("{other:?}"),
+    };
+    let pattern = between(&any_miss_2_of_5, &any_miss_3_of_7);
+    assert_eq!(*pattern, [0, 0, 1, 1, 1, 0, 0]);
+    assert_eq!(format!("{pattern:?}"), "[0, 0, 1, 1, 1, 0, 0]");
+    assert_eq!(judge(&any_miss_3_of_7, &pattern), Ok(Verdict::Lost { job: 7, limit: 0 }));
+    assert_eq!(*between(&any_miss_3_of_7, &any_miss_2_of_5), [0, 0, 0]);
+}
+
+#[test]
+fn of_build_and_check() {
+    let mut work = [7; WORK_ENTRIES];
+    let mut table = [7; LONGEST_TABLE];
+    let length = build(&ALL_KINDS, &mut work, &mut table).unwrap();
+    assert_eq!(table[..length], TABLE);
+    assert_eq!(table[length..], [7; LONGEST_TABLE][length..]);
+    assert_eq!(work, [0; WORK_ENTRIES]);
+    assert_eq!(check_table(&table[..length]), Ok(3));
+}
+
+/// The guard is a value: each copy goes its own way.
+#[test]
+fn of_guards() {
+    let fresh = Guard::start(&TABLE).unwrap();
+    assert_eq!(fresh, Guard::default());
+    let missed = fresh.tell(&TABLE, MISS).unwrap();
+    let lost = missed.tell(&TABLE, MISS).unwrap();
+    let met = missed.tell(&TABLE, HIT).unwrap();
+    assert_eq!(lost, Guard { state: 1, lost: true });
+    assert_eq!(lost.tell(&TABLE, HIT), Ok(lost));
+    assert_eq!(met, Guard { state: 2, lost: false });
+    assert_eq!(met.tell(&TABLE, HIT), Ok(fresh));
+    let hears = |guard: Guard| guard.ask(&TABLE).unwrap();
+    assert_eq!([fresh, missed, met, lost].map(hears), [Answer::Normal, Answer::Panic, Answer::Panic, Answer::Lost]);
+    assert_eq!([fresh, missed, lost].map(|guard| hears(guard).to_string()), ["normal", "panic", "lost"]);
+}
+
+#[test]
+fn of_rows() {
+    let mut jobs = [Guard::default(); MOST_GUARDS];
+    row::tell(&mut jobs, 3, &TABLE, MISS).unwrap();
+    row::tell(&mut jobs, 15, &TABLE, MISS).unwrap();
+    row::tell(&mut jobs, 15, &TABLE, MISS).unwrap();
+    let mut want = [Guard::default(); MOST_GUARDS];
+    want[3].state = 1;
+    want[15] = Guard { state: 1, lost: true };
+    assert_eq!(jobs, want);
+    let hears = [0, 3, 15].map(|job| row::ask(&jobs, job, &TABLE).unwrap());
+    assert_eq!(hears, [Answer::Normal, Answer::Panic, Answer::Lost]);
+    row::start(&mut jobs, 15, &TABLE).unwrap();
+    want[15] = Guard::default();
+    assert_eq!(jobs, want);
+}

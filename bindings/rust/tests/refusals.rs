@@ -1,0 +1,113 @@
+//! Every refusal once through the safe face, with its number, what comes beside it and its words.
+
+use floelinnet::*;
+
+const SET: [u8; 9] = [0, 0, 0, 5, 1, 1, 0, 1, 2];
+const TABLE: [u8; 15] = [0, 0, 0, 11, 1, 0, 2, 0, 1, 0, 0, 0xFF, 0xFF, 0, 0];
+
+/// The bytes with one of them changed.
+fn with<const N: usize>(mut bytes: [u8; N], place: usize, byte: u8) -> [u8; N] {
+    bytes[place] = byte;
+    bytes
+}
+
+fn says(refused: Refused, number: u8, at: usize, words: &str) {
+    assert_eq!((refused.number(), refused.at()), (number, at), "{refused:?}");
+    assert_eq!(refused.to_string(), format!("refusal {number}: {words}"));
+}
+
+#[test]
+fn of_sets() {
+    let refused = |set: &[u8]| read_set(set).unwrap_err();
+    let length = "the set has fewer than 6 bytes, or its length field isn't the count of bytes after it";
+    says(refused(&[]), 1, 0, length);
+    says(refused(&SET[..8]), 1, 0, length);
+    says(refused(&with(SET, 4, 2)), 2, 0, "the set's version isn't 1");
+    says(refused(&with(SET, 5, 9)), 3, 0, "the set's count of limits is 0 or above 8");
+    says(refused(&with(SET, 5, 2)), 4, 0, "the set's length field isn't 2 + 3 times its count of limits");
+    let three = |kind, x, k| [0, 0, 0, 11, 1, 3, 0, 1, 2, 3, 11, 0, kind, x, k];
+    says(refused(&three(4, 1, 2)), 5, 2, "the kind of limit 2 is above 3");
+    says(refused(&three(3, 1, 2)), 6, 2, "the k of limit 2 is outside its range");
+    says(refused(&three(0, 3, 2)), 7, 2, "the x of limit 2 is outside its range");
+}
+
+#[test]
+fn of_builds() {
+    let mut work = [7; WORK_ENTRIES];
+    let mut table = [7; 14];
+    let refused = build(&SET, &mut work[1..], &mut table).unwrap_err();
+    says(refused, 8, 0, "the work area has fewer than 8192 entries");
+    assert_eq!(work, [7; WORK_ENTRIES]);
+    says(build(&SET, &mut work, &mut table).unwrap_err(), 9, 15, "the table buffer is shorter than 15 bytes");
+    assert_eq!((work, table), ([0; WORK_ENTRIES], [7; 14]));
+    assert_eq!(build(&SET[..8], &mut work, &mut table), Err(Refused::SetLength));
+}
+
+#[test]
+fn of_tables_and_guards() {
+    let length = "the table has fewer than 7 bytes, or its length field isn't the count of bytes after it";
+    let states = "the table's count of states is 0 or above 2048, its length field isn't 3 + 4 times that count, \
+                  or a next state or the guard's state isn't below it";
+    let cases: [(&[u8], u8, &str); 5] = [
+        (&[], 10, length),
+        (&TABLE[..14], 10, length),
+        (&with(TABLE, 4, 0), 11, "the table's version isn't 1"),
+        (&with(TABLE, 6, 3), 12, states),
+        (&with(TABLE, 8, 2), 12, states),
+    ];
+    let guard = Guard::default();
+    for (table, number, words) in cases {
+        says(check_table(table).unwrap_err(), number, 0, words);
+        says(Guard::start(table).unwrap_err(), number, 0, words);
+        says(guard.ask(table).unwrap_err(), number, 0, words);
+        says(guard.tell(table, HIT).unwrap_err(), number, 0, words);
+    }
+    says(Guard { state: 2, lost: true }.ask(&TABLE).unwrap_err(), 12, 0, states);
+}
+
+#[test]
+fn of_outcomes() {
+    says(judge(&SET, &[0, 0, 1, 2, 255]).unwrap_err(), 13, 3, "the outcome at place 3 is neither 0 nor 1");
+    let guard = Guard { state: 1, lost: true };
+    says(guard.tell(&TABLE, 2).unwrap_err(), 13, 0, "the outcome at place 0 is neither 0 nor 1");
+}
+
+#[test]
+fn of_rows() {
+    let words = "the job's number isn't below the row's count of guards, or the row has more than 16";
+    let stands = Guard { state: 1, lost: true };
+    for (count, job) in [(0, 0), (3, 3), (3, usize::MAX), (MOST_GUARDS + 1, 0)] {
+        let mut guards = [stands; MOST_GUARDS + 1];
+        let jobs = &mut guards[..count];
+        says(row::start(jobs, job, &[]).unwrap_err(), 14, 0, words);
+        says(row::ask(jobs, job, &[]).unwrap_err(), 14, 0, words);
+        says(row::tell(jobs, job, &[], 2).unwrap_err(), 14, 0, words);
+        assert_eq!(guards, [stands; MOST_GUARDS + 1]);
+    }
+    let mut jobs = [stands; 3];
+    assert_eq!(row::start(&mut jobs, 1, &TABLE[..14]), Err(Refused::TableLength));
+    assert_eq!(row::tell(&mut jobs, 1, &TABLE, 2), Err(Refused::Outcome { place: 0 }));
+    assert_eq!(jobs, [stands; 3]);
+}
+
+#[test]
+fn of_comparisons() {
+    let bad = with(SET, 8, 13);
+    let first = compare(&bad, &[]).unwrap_err();
+    assert_eq!(first, RefusedSet::First(Refused::LimitK { limit: 0 }));
+    assert_eq!(first.to_string(), "first set: refusal 6: the k of limit 0 is outside its range");
+    let second = compare(&SET, &bad).unwrap_err();
+    assert_eq!(second, RefusedSet::Second(Refused::LimitK { limit: 0 }));
+    assert_eq!(second.to_string(), "second set: refusal 6: the k of limit 0 is outside its range");
+}
+
+/// `?` turns both kinds into any error.
+#[test]
+fn as_errors() {
+    fn read() -> Result<(), Box<dyn std::error::Error>> {
+        compare(&SET, &SET)?;
+        read_set(&[])?;
+        Ok(())
+    }
+    assert!(read().unwrap_err().downcast::<Refused>().is_ok());
+}

@@ -1,0 +1,141 @@
+//! The safe face in bindings/rust against the archive's plain records: each of its answers, put back into a record, is
+//! the record that the same call gives.
+
+use floelinnet::{Comparison, Guard, Refused, Verdict};
+use floelinnet_tests::damage::{damage, drawn_table, spoilt_set};
+use floelinnet_tests::draw::{cases, Draw};
+use floelinnet_tests::reference::compare::RefusedSet;
+use floelinnet_tests::reference::limits::Limit;
+use floelinnet_tests::reference::verdict::Lost;
+use floelinnet_tests::reference::{guard, sets, Refusal};
+use floelinnet_tests::{expected, floe};
+
+fn refusal(refused: Refused) -> Refusal {
+    Refusal { number: refused.number(), at: refused.at() }
+}
+
+fn limit(limit: floelinnet::Limit) -> Limit {
+    match limit {
+        floelinnet::Limit::AnyHit { x, k } => Limit { kind: 0, x, k },
+        floelinnet::Limit::RowHit { x, k } => Limit { kind: 1, x, k },
+        floelinnet::Limit::AnyMiss { x, k } => Limit { kind: 2, x, k },
+        floelinnet::Limit::RowMiss { x } => Limit { kind: 3, x, k: 0 },
+    }
+}
+
+fn standing(guard: Guard) -> guard::Guard {
+    guard::Guard { state: guard.state, lost: guard.lost }
+}
+
+fn heard(answer: floelinnet::Answer) -> guard::Answer {
+    match answer {
+        floelinnet::Answer::Normal => guard::Answer::Normal,
+        floelinnet::Answer::Panic => guard::Answer::Panic,
+        floelinnet::Answer::Lost => guard::Answer::Lost,
+    }
+}
+
+fn drawn_set(draw: &mut Draw) -> Vec<u8> {
+    if draw.one_in(2) {
+        spoilt_set(draw)
+    } else {
+        sets::bytes(&draw.set())
+    }
+}
+
+#[test]
+fn sets_verdicts_and_comparisons() {
+    let mut draw = Draw::new(81);
+    let mut seen = [0; 14];
+    for _ in 0..cases(20_000) {
+        let set = drawn_set(&mut draw);
+        let answer = floelinnet::read_set(&set).map(|set| set.limits().map(limit).collect());
+        assert_eq!(expected::set_read(answer.map_err(refusal)), floe::sets::read_set(&set), "{set:02X?}");
+
+        let jobs = draw.below(16);
+        let mut pattern = draw.pattern(jobs, 4);
+        if draw.one_in(4) {
+            pattern.push(2);
+        }
+        let answer = floelinnet::judge(&set, &pattern).map(|verdict| match verdict {
+            Verdict::Kept => None,
+            Verdict::Lost { job, limit } => Some(Lost { job, limit }),
+        });
+        let found = floe::verdict::judge(&set, &pattern);
+        assert_eq!(expected::verdict(answer.map_err(refusal)), found, "{set:02X?} on {pattern:?}");
+        seen[found.refused as usize] += 1;
+
+        let second = drawn_set(&mut draw);
+        let answer = floelinnet::compare(&set, &second).map(|comparison| match comparison {
+            Comparison::Covers => None,
+            Comparison::Between(pattern) => Some(pattern.to_vec()),
+        });
+        let answer = answer.map_err(|refused| match refused {
+            floelinnet::RefusedSet::First(refused) => RefusedSet { which: 1, refusal: refusal(refused) },
+            floelinnet::RefusedSet::Second(refused) => RefusedSet { which: 2, refusal: refusal(refused) },
+        });
+        let found = floe::compare::compare(&set, &second);
+        assert_eq!(expected::comparison(answer), found, "{set:02X?} with {second:02X?}");
+    }
+    assert!([0, 1, 2, 3, 4, 5, 6, 7, 13].iter().all(|&number| seen[number] > 50), "{seen:?}");
+}
+
+#[test]
+fn builds() {
+    let mut draw = Draw::new(82);
+    let mut seen = [0; 10];
+    for _ in 0..cases(2_000) {
+        let set = drawn_set(&mut draw);
+        let mut work = vec![7; draw.of(&[8191, 8192, 8192, 8193])];
+        let mut table = vec![7; draw.of(&[0, 20, 100, 8199])];
+        let (mut plain_work, mut plain_table) = (work.clone(), table.clone());
+        let answer = floelinnet::build(&set, &mut work, &mut table).map(|length| table[..length].to_vec());
+        let found = floe::builder::build(&set, &mut plain_work, &mut plain_table);
+        assert_eq!(expected::built(answer.map_err(refusal)), found, "{set:02X?}");
+        assert!(work == plain_work && table == plain_table, "{set:02X?}");
+        seen[found.refused as usize] += 1;
+    }
+    assert!([0, 8, 9].iter().all(|&number| seen[number] > 50), "{seen:?}");
+}
+
+#[test]
+fn tables_guards_and_rows() {
+    let mut draw = Draw::new(83);
+    let mut seen = [0; 15];
+    for _ in 0..cases(50_000) {
+        let mut table = drawn_table(&mut draw, 4);
+        if draw.one_in(3) {
+            damage(&mut draw, &mut table);
+        }
+        let answer = floelinnet::check_table(&table).map_err(refusal);
+        assert_eq!(expected::checked(answer), floe::table::check_table(&table), "{table:02X?}");
+        let answer = Guard::start(&table).map(standing).map_err(refusal);
+        assert_eq!(expected::started(answer), floe::guard::start(&table), "{table:02X?}");
+
+        let count = draw.of(&[1, 3, 16, 17]);
+        let mut row: Vec<Guard> =
+            (0..count).map(|_| Guard { state: draw.below(5) as u16, lost: draw.one_in(4) }).collect();
+        let mut plain_row = row.clone();
+        let job = draw.below(count + 1);
+        let outcome = draw.of(&[0, 0, 1, 1, 2]);
+
+        let guard = row[0];
+        let answer = guard.ask(&table).map(heard).map_err(refusal);
+        assert_eq!(expected::asked(standing(guard), answer), floe::guard::ask(guard, &table), "{guard:?} {table:02X?}");
+        let answer = guard.tell(&table, outcome).map(standing).map_err(refusal);
+        let found = floe::guard::tell(guard, &table, outcome);
+        assert_eq!(expected::told(standing(guard), answer), found, "{guard:?} {outcome} {table:02X?}");
+
+        let shown = format!("job {job} of {row:?}, {outcome}, {table:02X?}");
+        let answer = floelinnet::row::tell(&mut row, job, &table, outcome).map_err(refusal);
+        let found = floe::row::tell(&mut plain_row, job, &table, outcome);
+        assert_eq!((expected::done(answer), &row), (found, &plain_row), "{shown}");
+        seen[found.refused as usize] += 1;
+        let answer = floelinnet::row::ask(&row, job, &table).map(heard).map_err(refusal);
+        assert_eq!(expected::row_asked(answer), floe::row::ask(&plain_row, job, &table), "{shown}");
+        let answer = floelinnet::row::start(&mut row, job, &table).map_err(refusal);
+        let found = floe::row::start(&mut plain_row, job, &table);
+        assert_eq!((expected::done(answer), &row), (found, &plain_row), "{shown}");
+    }
+    assert!([0, 10, 11, 12, 13, 14].iter().all(|&number| seen[number] > 100), "{seen:?}");
+}
