@@ -1,9 +1,10 @@
-/* How the header's records lie in memory: `name size alignment`, then `name.field offset`. */
+/* How the header's records lie in memory: `name size alignment`, then `name.field size offset`. */
 #include <floelinnet.h>
 #include <stdio.h>
 
 #define RECORD(record) printf(#record " %zu %zu\n", sizeof(record), _Alignof(record))
-#define FIELD(record, field) printf(#record "." #field " %zu\n", offsetof(record, field))
+#define FIELD(record, field) \
+    printf(#record "." #field " %zu %zu\n", sizeof(((record *)0)->field), offsetof(record, field))
 
 int main(void) {
     RECORD(floe_limit);
