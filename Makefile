@@ -20,7 +20,7 @@ dist: $(ARCHIVE)
 # README's way to compile the example.
 .PHONY: dist-links
 dist-links: dist
-	cc examples/recorder.c $$(PKG_CONFIG_PATH=dist/lib/pkgconfig pkg-config --cflags --libs floelinnet) -o target/recorder
+	$(CC) examples/recorder.c $$(PKG_CONFIG_PATH=dist/lib/pkgconfig pkg-config --cflags --libs floelinnet) -o target/recorder
 	target/recorder > target/recorder.printed
 	diff target/recorder.printed examples/recorder.expected
 

@@ -19,6 +19,7 @@ static const uint8_t operation[] = {1, 1, 0, 1, 0, 1, 1, 1, 1, 1, 1, 0, 0, 1, 1}
 static uint16_t work[8192]; /* used by floe_build alone */
 static uint8_t table[8199]; /* long enough for every table */
 
+/* After a refusal nobody guards the readings: a real recorder sounds the alarm here too. */
 static int stop(uint64_t refused, uint64_t at) {
     fprintf(stderr, "refused %" PRIu64 " at %" PRIu64 "\n", refused, at);
     return 1;
