@@ -42,8 +42,8 @@
  *   14  the job's number, from 0, isn't below the row's count of guards, or the row has more than 16 guards
  *
  * They are tested in this order, limits first to last and each for 5, 6 and 7, and the first that applies is given;
- * but a call on a row tests 14 first, before 10 to 13. A refused call writes to nothing that was lent to it, but for 9
- * (see floe_build): a guard and a whole row stay as they were.
+ * but a call on a row tests 14 first, before 10 to 13. A refused call writes to nothing that was lent to it, the row
+ * included, but for 9 (see floe_build), and gives back the guard that was handed in as it was.
  */
 #ifndef FLOELINNET_H
 #define FLOELINNET_H
@@ -172,8 +172,9 @@ floe_told floe_guard_tell(floe_guard guard, const uint8_t *table, size_t table_l
  *
  *     floe_guard row[16] = {0};
  *
- * Its jobs can be asked and told at once; starting one also checks the whole table. A call concerns the guard of one
- * job, numbered from 0: the guards of the other jobs are never written, and the answer doesn't depend on them.
+ * Nobody has started these guards, but they can be asked and told; starting one checks the whole table first. A call
+ * concerns the guard of one job, numbered from 0: the guards of the other jobs are never written, and the answer
+ * doesn't depend on them.
  */
 
 /*
