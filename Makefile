@@ -1,12 +1,28 @@
-# The commands of the repository. `rt` is Rattle's; cargo and a C compiler serve the tests and the benchmarks.
+# The commands of the repository. `rt` is Rattle's; cargo, C compilers, valgrind and pkg-config serve the tests, and
+# cargo the benchmarks.
 ARCHIVE = target/staticlib/libfloelinnet.a
 
 # Everything that must pass: the outside tests over the archive, then the proofs, must-fail edits and programs.
 # rt ci starts from nothing and removes target/, so it comes last, and its last line is the verdict.
 .PHONY: test
-test: $(ARCHIVE)
+test: dist-links
 	cd tests && cargo test --release --offline --quiet
+	cd bindings/rust && cargo test --release --offline --quiet
 	rt ci
+
+# What C and C++ programs are built with, in a folder that can be moved elsewhere.
+.PHONY: dist
+dist: $(ARCHIVE)
+	install -D -m 644 $(ARCHIVE) dist/lib/libfloelinnet.a
+	install -D -m 644 include/floelinnet.h dist/include/floelinnet.h
+	install -D -m 644 floelinnet.pc dist/lib/pkgconfig/floelinnet.pc
+
+# README's way to compile the example.
+.PHONY: dist-links
+dist-links: dist
+	$(CC) examples/recorder.c $$(PKG_CONFIG_PATH=dist/lib/pkgconfig pkg-config --cflags --libs floelinnet) -o target/recorder
+	target/recorder > target/recorder.printed
+	diff target/recorder.printed examples/recorder.expected
 
 .PHONY: bench
 bench: $(ARCHIVE)

@@ -1,21 +1,26 @@
 /*
  * Floelinnet for C and C++: limits on missed deadlines, the verdict on a pattern of outcomes, the comparison
- * of two sets of limits, tables made of sets, and guards that walk a table while jobs run.
- * Link with libfloelinnet.a, which `rt staticlib floelinnet` writes to target/staticlib/.
+ * of two sets of limits, tables made of sets, and guards that walk a table while jobs run, alone or in a row.
+ *
+ * Link with libfloelinnet.a. `rt staticlib floelinnet` writes it to target/staticlib/, and `make dist` puts it, this
+ * header and a file for pkg-config into dist/. With PKG_CONFIG_PATH set to dist/lib/pkgconfig:
+ *
+ *     cc prog.c $(pkg-config --cflags --libs floelinnet)
  *
  * Outcomes are bytes: 1 for a deadline that was met (a hit), 0 for one that was missed (a miss), oldest first.
- * Lengths named ..._len count elements: bytes, and for `work` entries of 16 bits.
+ * Lengths named ..._len count elements: bytes, and for `work` entries of 16 bits. The `count` of a row counts guards.
  *
  * Pointers. Every pointer is valid for its length: to read, and through a pointer that isn't const also to write.
  * A null pointer is never allowed; a length of 0 wants a pointer that isn't null, and nothing is read through it.
- * `work` is aligned as a uint16_t. What is written in a call (`work` and `table` of floe_build) overlaps nothing
- * else that is handed over in that call.
+ * `work` is aligned as a uint16_t, `row` as a floe_guard. What is written in a call (`work` and `table` of floe_build,
+ * `row` of floe_row_start and floe_row_tell) overlaps nothing else that is handed over in that call.
  *
  * Who owns what. All memory is the caller's. No function allocates, and none keeps a pointer after it returns.
  * Structs are passed and returned by value; none has to be released.
  *
  * Threads. No state is kept between calls, so any thread may call any function at any time, as long as no other
- * thread writes to what a call reads, or uses what a call writes, while it runs.
+ * thread writes to what a call reads, or uses what a call writes, while it runs. A row counts as a whole here: while
+ * one of its jobs is started or told, no other thread uses any of its guards.
  *
  * Answers. Each begins with `refused`, which is 0 where the call was not refused, and else the number of the
  * refusal; and with `at`, which says more for some numbers and is 0 for all others, and where nothing is refused:
@@ -34,9 +39,11 @@
  *   12  the table's count of states n is 0 or above 2048, its length field isn't 3 + 4 * n, a next state is n or
  *       more (FF FF after a miss excepted), or the guard's state is n or more
  *   13  an outcome byte is neither 0 nor 1                            at: its place in the pattern, from 0
+ *   14  the job's number, from 0, isn't below the row's count of guards, or the row has more than 16 guards
  *
- * They are tested in this order, limits first to last and each for 5, 6 and 7, and the first that applies is given.
- * A refused call writes to nothing that was lent to it, but for 9 (see floe_build).
+ * They are tested in this order, limits first to last and each for 5, 6 and 7, and the first that applies is given;
+ * but a call on a row tests 14 first, before 10 to 13. A refused call writes to nothing that was lent to it, the row
+ * included, but for 9 (see floe_build), and gives back the guard that was handed in as it was.
  */
 #ifndef FLOELINNET_H
 #define FLOELINNET_H
@@ -57,7 +64,8 @@ typedef struct { uint8_t kind, x, k; } floe_limit;
 typedef struct { uint64_t count; floe_limit limits[8]; } floe_set;
 
 /* A guard: where one job stands on its table, and whether its outcomes are lost. It belongs to the table that it was
- * started on; to copy it is to copy the job's standing. */
+ * started on; to copy it is to copy the job's standing. The byte of lost is 0 or 1, as in every C bool: a guard whose
+ * bytes come from elsewhere must be tested for that by the caller. */
 typedef struct { uint16_t state; bool lost; } floe_guard;
 
 typedef struct { uint64_t refused, at; floe_set set; } floe_set_read;
@@ -68,6 +76,8 @@ typedef struct { uint64_t refused, at, states; } floe_checked;
 typedef struct { uint64_t refused, at; floe_guard guard; } floe_started;
 typedef struct { uint64_t refused, at, answer; floe_guard guard; } floe_asked;
 typedef struct { uint64_t refused, at; floe_guard guard; } floe_told;
+typedef struct { uint64_t refused, at; } floe_done;
+typedef struct { uint64_t refused, at, answer; } floe_row_asked;
 
 /*
  * Reads the bytes of a set: four bytes, big-endian, that count the bytes after them; the version, 1; the count of
@@ -155,6 +165,44 @@ floe_asked floe_guard_ask(floe_guard guard, const uint8_t *table, size_t table_l
  * in then, and no outcome was told.
  */
 floe_told floe_guard_tell(floe_guard guard, const uint8_t *table, size_t table_len, uint8_t outcome);
+
+/*
+ * A row: guards for up to 16 jobs on one table, in an array of the caller's that is lent to each call. A new row holds
+ * guards in state 0 that aren't lost, which is all bytes zero:
+ *
+ *     floe_guard row[16] = {0};
+ *
+ * Nobody has started these guards, but they can be asked and told; starting one checks the whole table first. A call
+ * concerns the guard of one job, numbered from 0: the guards of the other jobs are never written, and the answer
+ * doesn't depend on them.
+ */
+
+/*
+ * Starts the guard of one job, as floe_guard_start does: row[job] is then in state 0 and not lost, whatever it was. No
+ * other call on a row brings a lost guard back.
+ *
+ * Refuses by 14, then by 10 to 12; row[job] is then the guard that it was.
+ */
+floe_done floe_row_start(floe_guard *row, size_t count, size_t job, const uint8_t *table, size_t table_len);
+
+/*
+ * Asks the guard of one job, before that job, whether a miss is still allowed, as floe_guard_ask does.
+ *
+ * answer: 0 normal, 1 panic, 2 lost. The row isn't written.
+ *
+ * Refuses by 14, then by 10 to 12, for a lost guard too; answer is 0 then, so look at refused first.
+ */
+floe_row_asked floe_row_ask(const floe_guard *row, size_t count, size_t job, const uint8_t *table, size_t table_len);
+
+/*
+ * Tells the guard of one job, after that job, its outcome, as floe_guard_tell does: row[job] becomes the guard to go on
+ * with.
+ *
+ * Refuses by 14, then by 10 to 12, then by 13 (at is 0), for a lost guard too. The row is then as it was, and no
+ * outcome was told.
+ */
+floe_done floe_row_tell(floe_guard *row, size_t count, size_t job, const uint8_t *table, size_t table_len,
+                        uint8_t outcome);
 
 #ifdef __cplusplus
 }

@@ -1,32 +1,46 @@
-//! The records lie in memory as C-BOUNDARY.md declares them.
+//! The records lie in memory as C-BOUNDARY.md declares them: in Rust, in C, and by the numbers that stand here.
 
-use std::mem::{align_of, offset_of, size_of};
+mod gcc;
+
+use std::mem::{align_of, offset_of, size_of, size_of_val};
+use std::process::Command;
 
 use floelinnet_tests::floe::*;
 
+/// Holds Rust to the numbers, and gives them in the words of layout.c. `job 8 at 16`: 8 bytes from byte 16 on.
 macro_rules! lies {
-    ($record:ident, $size:expr, $align:expr, $($field:ident at $place:expr),*) => {
+    ($record:ident, $name:ident, $size:expr, $align:expr, $($field:ident $width:literal at $place:expr),*) => {{
         assert_eq!(size_of::<$record>(), $size, "size of {}", stringify!($record));
         assert_eq!(align_of::<$record>(), $align, "alignment of {}", stringify!($record));
-        $(assert_eq!(offset_of!($record, $field), $place, "{}.{}", stringify!($record), stringify!($field));)*
-    };
+        let mut lines = vec![format!("{} {} {}", stringify!($name), $size, $align)];
+        $(
+            let lies = (size_of_val(&$record::default().$field), offset_of!($record, $field));
+            assert_eq!(lies, ($width, $place), "{}.{}", stringify!($record), stringify!($field));
+            lines.push(format!("{}.{} {} {}", stringify!($name), stringify!($field), $width, $place));
+        )*
+        lines
+    }};
 }
 
 #[test]
-fn small_records() {
-    lies!(Limit, 3, 1, kind at 0, x at 1, k at 2);
-    lies!(Set, 32, 8, count at 0, limits at 8);
-    lies!(Guard, 4, 2, state at 0, lost at 2);
-}
-
-#[test]
-fn answers() {
-    lies!(SetRead, 48, 8, refused at 0, at at 8, set at 16);
-    lies!(Verdict, 32, 8, refused at 0, at at 8, job at 16, limit at 24);
-    lies!(Comparison, 56, 8, refused at 0, at at 8, which at 16, covers at 24, length at 32, pattern at 40);
-    lies!(Built, 24, 8, refused at 0, at at 8, length at 16);
-    lies!(Checked, 24, 8, refused at 0, at at 8, states at 16);
-    lies!(Started, 24, 8, refused at 0, at at 8, guard at 16);
-    lies!(Asked, 32, 8, refused at 0, at at 8, answer at 16, guard at 24);
-    lies!(Told, 24, 8, refused at 0, at at 8, guard at 16);
+fn rust_and_c_agree_with_the_numbers() {
+    let lines = [
+        lies!(Limit, floe_limit, 3, 1, kind 1 at 0, x 1 at 1, k 1 at 2),
+        lies!(Set, floe_set, 32, 8, count 8 at 0, limits 24 at 8),
+        lies!(Guard, floe_guard, 4, 2, state 2 at 0, lost 1 at 2),
+        lies!(SetRead, floe_set_read, 48, 8, refused 8 at 0, at 8 at 8, set 32 at 16),
+        lies!(Verdict, floe_verdict, 32, 8, refused 8 at 0, at 8 at 8, job 8 at 16, limit 8 at 24),
+        lies!(Comparison, floe_comparison, 56, 8,
+            refused 8 at 0, at 8 at 8, which 8 at 16, covers 8 at 24, length 8 at 32, pattern 16 at 40),
+        lies!(Built, floe_built, 24, 8, refused 8 at 0, at 8 at 8, length 8 at 16),
+        lies!(Checked, floe_checked, 24, 8, refused 8 at 0, at 8 at 8, states 8 at 16),
+        lies!(Started, floe_started, 24, 8, refused 8 at 0, at 8 at 8, guard 4 at 16),
+        lies!(Asked, floe_asked, 32, 8, refused 8 at 0, at 8 at 8, answer 8 at 16, guard 4 at 24),
+        lies!(Told, floe_told, 24, 8, refused 8 at 0, at 8 at 8, guard 4 at 16),
+        lies!(Done, floe_done, 16, 8, refused 8 at 0, at 8 at 8),
+        lies!(RowAsked, floe_row_asked, 24, 8, refused 8 at 0, at 8 at 8, answer 8 at 16),
+    ];
+    let program = gcc::compile(&["gcc", "-std=c11"], "tests/c/layout.c");
+    let in_c = gcc::output(&mut Command::new(program));
+    assert_eq!(in_c.lines().collect::<Vec<_>>(), lines.concat());
 }

@@ -1,0 +1,207 @@
+/*
+ * Calls every function of the header, answered and refused, and prints every field of every answer in the words of
+ * Rust's Debug, so that tests/c_programs.rs can lay its own calls beside these. All that is lent lies in blocks of its
+ * exact size, so that valgrind sees a read or a write outside, and a use of what was never written.
+ */
+#include <floelinnet.h>
+#include <inttypes.h>
+#include <stdio.h>
+#include <stdlib.h>
+#include <string.h>
+
+static void *block(size_t bytes) {
+    void *block = malloc(bytes);
+    if (block == NULL) exit(1);
+    return block;
+}
+
+static uint8_t *lent(const uint8_t *bytes, size_t length) {
+    return (uint8_t *)memcpy(block(length), bytes, length);
+}
+
+static void field(const char *before, uint64_t value) {
+    printf("%s%" PRIu64, before, value);
+}
+
+static void head(const char *name, uint64_t refused, uint64_t at) {
+    printf("%s { refused: %" PRIu64 ", at: %" PRIu64, name, refused, at);
+}
+
+static void end(void) {
+    puts(" }");
+}
+
+static void print_bytes(const uint8_t *bytes, size_t length) {
+    for (size_t i = 0; i < length; i++) field(i == 0 ? "[" : ", ", bytes[i]);
+    printf("]");
+}
+
+static void print_guard(const char *before, floe_guard guard) {
+    printf("%sGuard { state: %u, lost: %s }", before, guard.state, guard.lost ? "true" : "false");
+}
+
+static void print_row(const floe_guard *row, size_t count) {
+    for (size_t i = 0; i < count; i++) print_guard(i == 0 ? "[" : ", ", row[i]);
+    puts("]");
+}
+
+static void print_set_read(floe_set_read read) {
+    head("SetRead", read.refused, read.at);
+    field(", set: Set { count: ", read.set.count);
+    for (size_t i = 0; i < 8; i++) {
+        field(i == 0 ? ", limits: [Limit { kind: " : ", Limit { kind: ", read.set.limits[i].kind);
+        field(", x: ", read.set.limits[i].x);
+        field(", k: ", read.set.limits[i].k);
+        printf(" }");
+    }
+    printf("] }");
+    end();
+}
+
+static void print_verdict(floe_verdict verdict) {
+    head("Verdict", verdict.refused, verdict.at);
+    field(", job: ", verdict.job);
+    field(", limit: ", verdict.limit);
+    end();
+}
+
+static void print_comparison(floe_comparison comparison) {
+    head("Comparison", comparison.refused, comparison.at);
+    field(", which: ", comparison.which);
+    field(", covers: ", comparison.covers);
+    field(", length: ", comparison.length);
+    printf(", pattern: ");
+    print_bytes(comparison.pattern, sizeof comparison.pattern);
+    end();
+}
+
+static void print_built(floe_built built) {
+    head("Built", built.refused, built.at);
+    field(", length: ", built.length);
+    end();
+}
+
+static void print_checked(floe_checked checked) {
+    head("Checked", checked.refused, checked.at);
+    field(", states: ", checked.states);
+    end();
+}
+
+static void print_started(floe_started started) {
+    head("Started", started.refused, started.at);
+    print_guard(", guard: ", started.guard);
+    end();
+}
+
+static void print_asked(floe_asked asked) {
+    head("Asked", asked.refused, asked.at);
+    field(", answer: ", asked.answer);
+    print_guard(", guard: ", asked.guard);
+    end();
+}
+
+static void print_told(floe_told told) {
+    head("Told", told.refused, told.at);
+    print_guard(", guard: ", told.guard);
+    end();
+}
+
+static void print_done(floe_done done) {
+    head("Done", done.refused, done.at);
+    end();
+}
+
+static void print_row_asked(floe_row_asked asked) {
+    head("RowAsked", asked.refused, asked.at);
+    field(", answer: ", asked.answer);
+    end();
+}
+
+int main(void) {
+    /* RowMiss(2) with AnyMiss(2,5); AnyMiss(3,7); and AnyHit(1,2) with a second limit of no kind. */
+    const uint8_t set_bytes[] = {0, 0, 0, 8, 1, 2, 3, 2, 0, 2, 2, 5};
+    const uint8_t other_bytes[] = {0, 0, 0, 5, 1, 1, 2, 3, 7};
+    const uint8_t faulty_bytes[] = {0, 0, 0, 8, 1, 2, 0, 1, 2, 4, 0, 1};
+    const uint8_t pattern_bytes[] = {1, 0, 1, 0, 0, 1};
+    const uint8_t faulty_pattern_bytes[] = {1, 0, 1, 2};
+    uint8_t *set = lent(set_bytes, sizeof set_bytes);
+    uint8_t *other = lent(other_bytes, sizeof other_bytes);
+    uint8_t *faulty = lent(faulty_bytes, sizeof faulty_bytes);
+    uint8_t *pattern = lent(pattern_bytes, sizeof pattern_bytes);
+    uint8_t *faulty_pattern = lent(faulty_pattern_bytes, sizeof faulty_pattern_bytes);
+    uint8_t *nothing = lent(set_bytes, 0);
+
+    print_set_read(floe_read_set(set, sizeof set_bytes));
+    print_set_read(floe_read_set(faulty, sizeof faulty_bytes));
+    print_set_read(floe_read_set(nothing, 0));
+
+    print_verdict(floe_judge(set, sizeof set_bytes, pattern, sizeof pattern_bytes));
+    print_verdict(floe_judge(set, sizeof set_bytes, nothing, 0));
+    print_verdict(floe_judge(set, sizeof set_bytes, faulty_pattern, sizeof faulty_pattern_bytes));
+    print_verdict(floe_judge(faulty, sizeof faulty_bytes, pattern, sizeof pattern_bytes));
+
+    print_comparison(floe_compare(set, sizeof set_bytes, other, sizeof other_bytes));
+    print_comparison(floe_compare(set, sizeof set_bytes, set, sizeof set_bytes));
+    print_comparison(floe_compare(set, sizeof set_bytes, faulty, sizeof faulty_bytes));
+
+    uint16_t *work = (uint16_t *)block(8192 * sizeof *work);
+    floe_built needed = floe_build(set, sizeof set_bytes, work, 8192, nothing, 0);
+    print_built(needed);
+    print_built(floe_build(set, sizeof set_bytes, work, 8191, nothing, 0));
+    size_t length = needed.at;
+    uint8_t *table = (uint8_t *)block(length);
+    print_built(floe_build(set, sizeof set_bytes, work, 8192, table, length));
+    print_bytes(table, length);
+    puts("");
+
+    print_checked(floe_check_table(table, length));
+    print_checked(floe_check_table(nothing, 0));
+    uint8_t *faulty_table = lent(table, length);
+    faulty_table[4] = 2;
+    print_checked(floe_check_table(faulty_table, length));
+
+    print_started(floe_guard_start(table, length - 1));
+    floe_started started = floe_guard_start(table, length);
+    print_started(started);
+    floe_guard guard = started.guard;
+    for (int misses = 0; misses < 3; misses++) {
+        print_asked(floe_guard_ask(guard, table, length));
+        print_asked(floe_guard_ask(guard, faulty_table, length));
+        print_told(floe_guard_tell(guard, table, length, 2));
+        floe_told told = floe_guard_tell(guard, table, length, 0);
+        print_told(told);
+        guard = told.guard;
+    }
+    print_asked(floe_guard_ask(guard, table, length));
+
+    const size_t count = 3;
+    floe_guard *row = (floe_guard *)calloc(count, sizeof *row);
+    if (row == NULL) exit(1);
+    for (int misses = 0; misses < 3; misses++) {
+        print_row_asked(floe_row_ask(row, count, 1, table, length));
+        print_row_asked(floe_row_ask(row, count, 1, faulty_table, length));
+        print_row_asked(floe_row_ask(row, count, 3, table, length));
+        print_done(floe_row_tell(row, count, 1, table, length, 2));
+        print_done(floe_row_tell(row, count, 3, table, length, 0));
+        print_done(floe_row_tell(row, count, 1, table, length, 0));
+        print_row(row, count);
+    }
+    print_row_asked(floe_row_ask(row, count, 1, table, length));
+    print_done(floe_row_start(row, count, 1, faulty_table, length));
+    print_done(floe_row_start(row, count, 3, table, length));
+    print_row(row, count);
+    print_done(floe_row_start(row, count, 1, table, length));
+    print_row(row, count);
+
+    free(set);
+    free(other);
+    free(faulty);
+    free(pattern);
+    free(faulty_pattern);
+    free(nothing);
+    free(work);
+    free(table);
+    free(faulty_table);
+    free(row);
+    return 0;
+}
