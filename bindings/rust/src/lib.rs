@@ -67,6 +67,11 @@ pub const LONGEST_TABLE: usize = 8199;
 /// How many guards a row has at the most.
 pub const MOST_GUARDS: usize = 16;
 
+/// README's Rust program runs as this crate's examples do.
+#[cfg(doctest)]
+#[doc = include_str!("../../../README.md")]
+struct Readme;
+
 /// A number that the library's proofs leave no room for. Whatever was answered instead would be a rule of this crate's
 /// own, so the call ends here.
 #[cold]

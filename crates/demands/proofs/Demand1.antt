@@ -32,11 +32,11 @@ use Rattle.builder.specs.declared.BuildAnswer.the-variants as build-answer
 use Rattle.builder.specs.Build.{earlyRows, buildRows, tableWhen, WorkAfter, Cleared, BuiltAs}
 
 -- every row of a table has a number that is at least low and at most high
-abbrev Numbered : (low high : ℕ) → List Row → Type 0
+abbrev pub Numbered : (low high : ℕ) → List Row → Type 0
 Numbered low high [] = Unit {0}
 Numbered low high (r ∷ rows) = (low ≤ r .number) × (r .number ≤ high) × Numbered low high rows
 
-first-numbered : (low high : ℕ) (rows : List Row) (n v : ℕ) → Numbered low high rows → first rows ≡ refused n v → (low ≤ n) × (n ≤ high)
+pub first-numbered : (low high : ℕ) (rows : List Row) (n v : ℕ) → Numbered low high rows → first rows ≡ refused n v → (low ≤ n) × (n ≤ high)
 unfolding first
 first-numbered low high [] n v f e = absurd (passed-not-refused e)
 first-numbered low high (r ∷ rows) n v (l, h, f) e = go (r .holds) e (first-numbered low high rows n v f)
@@ -50,7 +50,7 @@ unfolding limitsRows
 limits-numbered w s i zero = tt
 limits-numbered w s i (suc n) = (omega arith, omega arith, (omega arith, omega arith, (omega arith, omega arith, limits-numbered w s (suc i) n)))
 
-wider : (a b c d : ℕ) → c ≤ a → b ≤ d → (rows : List Row) → Numbered a b rows → Numbered c d rows
+pub wider : (a b c d : ℕ) → c ≤ a → b ≤ d → (rows : List Row) → Numbered a b rows → Numbered c d rows
 wider a b c d l h [] f = tt
 wider a b c d l h (r ∷ rows) (x, y, f) = (omega arith, omega arith, wider a b c d l h rows f)
 
@@ -68,19 +68,23 @@ unfolding entriesRows
 entries-numbered b s zero = tt
 entries-numbered b s (suc n) = (omega arith, omega arith, (omega arith, omega arith, entries-numbered b (suc s) n))
 
+pub table-numbered : (b : List ℕ) → Numbered 10 12 (tableRows b)
+table-numbered b =
+    (omega arith, omega arith, (omega arith, omega arith, (omega arith, omega arith, (omega arith, omega arith, wider 12 12 10 12 (omega arith) (omega arith) (entriesRows b 0 (stateCount b)) (entries-numbered b 0 (stateCount b))))))
+
+pub look-numbered : (b : List ℕ) (s : ℕ) → Numbered 10 12 (lookRows b s)
+look-numbered b s =
+    (omega arith, omega arith, (omega arith, omega arith, (omega arith, omega arith, (omega arith, omega arith, (omega arith, omega arith, (omega arith, omega arith, (omega arith, omega arith, tt)))))))
+
 -- A set is refused by 1 to 7, a table by 10 to 12, a look at one of its states too.
 pub set-refused-by : (w : ℕ) (b : List ℕ) (n v : ℕ) → first (setRows w b) ≡ refused n v → (1 ≤ n) × (n ≤ 7)
 set-refused-by w b n v = first-numbered 1 7 (setRows w b) n v (set-numbered w b)
 
 pub table-refused-by : (b : List ℕ) (n v : ℕ) → first (tableRows b) ≡ refused n v → (10 ≤ n) × (n ≤ 12)
-table-refused-by b n v =
-    first-numbered 10 12 (tableRows b) n v
-    (omega arith, omega arith, (omega arith, omega arith, (omega arith, omega arith, (omega arith, omega arith, wider 12 12 10 12 (omega arith) (omega arith) (entriesRows b 0 (stateCount b)) (entries-numbered b 0 (stateCount b))))))
+table-refused-by b n v = first-numbered 10 12 (tableRows b) n v (table-numbered b)
 
 pub look-refused-by : (b : List ℕ) (s n v : ℕ) → first (lookRows b s) ≡ refused n v → (10 ≤ n) × (n ≤ 12)
-look-refused-by b s n v =
-    first-numbered 10 12 (lookRows b s) n v
-    (omega arith, omega arith, (omega arith, omega arith, (omega arith, omega arith, (omega arith, omega arith, (omega arith, omega arith, (omega arith, omega arith, (omega arith, omega arith, tt)))))))
+look-refused-by b s n v = first-numbered 10 12 (lookRows b s) n v (look-numbered b s)
 
 pub outcome-refused-by : (p : List ℕ) (n v : ℕ) → first (outcomeRows p 0) ≡ refused n v → (13 ≤ n) × (n ≤ 13)
 outcome-refused-by p n v = first-numbered 13 13 (outcomeRows p 0) n v (outcomes-numbered p 0)
