@@ -7,12 +7,37 @@ pub fn may_miss(table: &[u8], state: u16) -> Result<bool, u8> {
 
 #[inline(never)]
 pub fn next(table: &[u8], state: u16, outcome: u8) -> Result<u16, u8> {
+    moved(table, state, outcome)
+}
+
+/// The same for one job of a row, with the test for 14 before it.
+#[inline(never)]
+pub fn row_may_miss(row: &[u16], job: usize, table: &[u8]) -> Result<bool, u8> {
+    test_job(row, job)?;
+    entry(table, row[job]).map(|(miss, _)| miss != 0xFFFF)
+}
+
+#[inline(never)]
+pub fn row_next(row: &mut [u16], job: usize, table: &[u8], outcome: u8) -> Result<(), u8> {
+    test_job(row, job)?;
+    row[job] = moved(table, row[job], outcome)?;
+    Ok(())
+}
+
+fn moved(table: &[u8], state: u16, outcome: u8) -> Result<u16, u8> {
     let (miss, hit) = entry(table, state)?;
     match outcome {
         0 => Ok(miss),
         1 => Ok(hit),
         _ => Err(13),
     }
+}
+
+fn test_job(row: &[u16], job: usize) -> Result<(), u8> {
+    if job >= row.len() || row.len() > 16 {
+        return Err(14);
+    }
+    Ok(())
 }
 
 fn entry(table: &[u8], state: u16) -> Result<(u16, u16), u8> {
