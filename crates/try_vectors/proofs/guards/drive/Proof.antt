@@ -1,0 +1,59 @@
+-- `try_vectors::guards::drive` is safe and ends: each turn is one action further. Assumes nothing.
+use Prim.Native.Nat.{_≤_, _-_}
+use borrow.Author.Needs.{needs}
+use lib.ListN.{length}
+use Rattle.try_vectors.proofs.guards.drive.Statement.{statement}
+use Rattle.try_vectors.proofs.guards.drive.Tie as tie
+
+abbrev Inv-loop : tie.InvT-loop
+Inv-loop table actions driven₀ i₀ t6 driven i = i ≤ length actions
+
+abbrev μ-loop : tie.MeasureT-loop
+μ-loop table actions driven₀ i₀ t6 driven i = length actions - i
+
+loop-holds : tie.Need-loop-holds Inv-loop μ-loop
+loop-holds c = search needs
+
+shared-slice-read-act : tie.Need-shared-slice-read-act Inv-loop μ-loop
+shared-slice-read-act c = search needs
+
+act-requires : tie.Need-act-requires Inv-loop μ-loop
+act-requires c κs = search needs
+
+slice-aggregate-print : tie.Need-slice-aggregate-print Inv-loop μ-loop
+slice-aggregate-print c = search needs
+
+print-requires : tie.Need-print-requires Inv-loop μ-loop
+print-requires c κs = search needs
+
+add-i : tie.Need-add-i Inv-loop μ-loop
+add-i c = search needs
+
+loop-less : tie.Need-loop-less Inv-loop μ-loop
+loop-less c = search needs
+
+loop-again : tie.Need-loop-again Inv-loop μ-loop
+loop-again c = search needs
+
+print-guard-requires : tie.Need-print-guard-requires Inv-loop μ-loop
+print-guard-requires c κs = search needs
+
+returns : tie.Need-returns Inv-loop μ-loop
+returns c = search needs
+
+pub drive-spec : {M : Type 1} → statement M
+drive-spec =
+    tie.close
+    (tie.spec
+    Inv-loop
+    μ-loop
+    loop-holds
+    shared-slice-read-act
+    act-requires
+    slice-aggregate-print
+    print-requires
+    add-i
+    loop-less
+    loop-again
+    print-guard-requires
+    returns)

@@ -1,0 +1,148 @@
+// The answers of the library's functions as text, one function for each type of answer, and guards as they stand afterwards.
+// A set is its count and its limits, each as kind, x, k; jobs are numbered from 1, limits from 0.
+// A comparison's refusal also says which set was refused, 1 or 2.
+use crate::text;
+use compare::CompareAnswer;
+use guard::AskAnswer;
+use guard::Guard;
+use guard::StartAnswer;
+use guard::TellAnswer;
+use meaning::Limit;
+use meaning::LimitSet;
+use table::TableAnswer;
+
+fn print_limit(limit: Limit, first: bool) {
+    if !first {
+        text::print(b",");
+    }
+    text::print(b" ");
+    text::print_number(limit.kind as u64);
+    text::print(b" ");
+    text::print_number(limit.x as u64);
+    text::print(b" ");
+    text::print_number(limit.k as u64);
+}
+
+fn print_limits(set: LimitSet) {
+    let count = set.count;
+    let mut i = 0;
+    while i < 8 {
+        if i == count {
+            return;
+        }
+        let limit = set.limits[i];
+        print_limit(limit, i == 0);
+        i += 1;
+    }
+}
+
+// As `accepted 2: 0 2 4, 3 2 0`.
+pub fn print_read(read: sets::SetRead) {
+    let answer = read.answer;
+    if let sets::SetAnswer::Refused { number, at } = answer {
+        text::print_refusal(number, at);
+        return;
+    }
+    let set = read.set;
+    text::print(b"accepted ");
+    text::print_number(set.count as u64);
+    text::print(b":");
+    print_limits(set);
+}
+
+// As `written 9`; says how many bytes were written.
+pub fn print_written(written: sets::SetWritten) -> usize {
+    match written {
+        sets::SetWritten::Written(size) => {
+            text::print(b"written ");
+            text::print_number(size as u64);
+            size
+        }
+        sets::SetWritten::Refused { number, at } => {
+            text::print_refusal(number, at);
+            0
+        }
+    }
+}
+
+// As `lost at 4 by limit 0`.
+fn print_lost(job: u64, limit: usize) {
+    text::print(b"lost at ");
+    text::print_number(job);
+    text::print(b" by limit ");
+    text::print_number(limit as u64);
+}
+
+pub fn print_judgement(judgement: verdict::Judgement) {
+    match judgement {
+        verdict::Judgement::Kept => text::print(b"kept"),
+        verdict::Judgement::Lost { job, limit } => print_lost(job, limit),
+        verdict::Judgement::Refused { number, at } => text::print_refusal(number, at),
+    }
+}
+
+// As `between 0011100`.
+fn print_between(pattern: compare::Pattern) {
+    text::print(b"between ");
+    let outcomes = pattern.outcomes;
+    text::print_outcomes(&outcomes, pattern.length);
+}
+
+// As `refused 3 at 0 in set 1`.
+fn print_refused_set(which: u8, number: u8, at: usize) {
+    text::print_refusal(number, at);
+    text::print(b" in set ");
+    text::print_number(which as u64);
+}
+
+pub fn print_compared(compared: compare::Compared) {
+    let answer = compared.answer;
+    match answer {
+        CompareAnswer::Covers => text::print(b"covers"),
+        CompareAnswer::Between => print_between(compared.pattern),
+        CompareAnswer::Refused { which, number, at } => print_refused_set(which, number, at),
+    }
+}
+
+// As `states 3`.
+pub fn print_checked(answer: TableAnswer) {
+    match answer {
+        TableAnswer::States(n) => {
+            text::print(b"states ");
+            text::print_number(n as u64);
+        }
+        TableAnswer::Refused { number, at } => text::print_refusal(number, at),
+    }
+}
+
+pub fn print_started(answer: StartAnswer) {
+    match answer {
+        StartAnswer::Started => text::print(b"started"),
+        StartAnswer::Refused { number, at } => text::print_refusal(number, at),
+    }
+}
+
+pub fn print_asked(answer: AskAnswer) {
+    match answer {
+        AskAnswer::Normal => text::print(b"normal"),
+        AskAnswer::Panic => text::print(b"panic"),
+        AskAnswer::Lost => text::print(b"lost"),
+        AskAnswer::Refused { number, at } => text::print_refusal(number, at),
+    }
+}
+
+pub fn print_told(answer: TellAnswer) {
+    match answer {
+        TellAnswer::Told => text::print(b"told"),
+        TellAnswer::Refused { number, at } => text::print_refusal(number, at),
+    }
+}
+
+// As `state 1`, or `state 1 lost`.
+pub fn print_guard(guard: Guard) {
+    text::print(b"state ");
+    text::print_number(guard.state as u64);
+    if guard.lost {
+        text::print(b" lost");
+    }
+}

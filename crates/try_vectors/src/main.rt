@@ -1,0 +1,87 @@
+// Runs the vectors on standard input through the library's functions, one vector a line, and refuses nothing.
+// Each line is printed as it stands, then ` = ` and the answers. Comments begin with `#`; they and empty lines have none.
+// `r SET` reads; `w SET` reads and writes; `m SET SIZE` writes from memory; `j SET OUTCOMES` judges; `c SET SET` compares.
+// `t TABLE` checks a table. `g TABLE ACTIONS` drives a guard in state 0; `h TABLE STATE LOST ACTIONS` drives one made by hand.
+mod answers;
+mod fields;
+mod guards;
+mod memory;
+mod patterns;
+mod tables;
+mod text;
+
+// The answer to a vector on sets and patterns, and whether there was such a command.
+fn answer_patterns(line: &[u8], command: u8) -> bool {
+    if command == b'r' {
+        patterns::try_read(line);
+        return true;
+    }
+    if command == b'w' {
+        patterns::try_write(line);
+        return true;
+    }
+    if command == b'm' {
+        memory::write_from(fields::field(line, 1), fields::field(line, 2));
+        return true;
+    }
+    if command == b'j' {
+        patterns::try_judge(line);
+        return true;
+    }
+    if command == b'c' {
+        patterns::try_compare(line);
+        return true;
+    }
+    false
+}
+
+fn answer(line: &[u8], command: u8) {
+    text::print(b" = ");
+    if answer_patterns(line, command) {
+        return;
+    }
+    if command == b't' {
+        tables::try_check(line);
+        return;
+    }
+    if command == b'g' {
+        guards::try_new(line);
+        return;
+    }
+    if command == b'h' {
+        guards::try_by_hand(line);
+        return;
+    }
+    text::print(b"no such command");
+}
+
+fn try_line(line: &[u8]) {
+    text::print(line);
+    if line.len() == 0 {
+        return;
+    }
+    let command = line[0];
+    if command == b'#' {
+        return;
+    }
+    answer(line, command);
+}
+
+fn run(lines: &[u8]) {
+    let mut at = 0;
+    while at < lines.len() {
+        let end = fields::find(lines, b'\n', at);
+        try_line(&lines[at..end]);
+        text::print_line_end();
+        if end == lines.len() {
+            return;
+        }
+        at = end + 1;
+    }
+}
+
+fn main() {
+    let mut lines = io::large_buffer();
+    let n = io::read_full(libc::STDIN_FILENO, &mut lines);
+    run(&lines[..n]);
+}
