@@ -37,7 +37,7 @@ fn print_limits(set: LimitSet) {
 }
 
 // As `accepted 2: 0 2 4, 3 2 0`.
-pub fn print_read(read: sets::SetRead) {
+pub(crate) fn print_read(read: sets::SetRead) {
     let answer = read.answer;
     if let sets::SetAnswer::Refused { number, at } = answer {
         text::print_refusal(number, at);
@@ -51,7 +51,7 @@ pub fn print_read(read: sets::SetRead) {
 }
 
 // As `written 9`; says how many bytes were written.
-pub fn print_written(written: sets::SetWritten) -> usize {
+pub(crate) fn print_written(written: sets::SetWritten) -> usize {
     match written {
         sets::SetWritten::Written(size) => {
             text::print(b"written ");
@@ -73,7 +73,7 @@ fn print_lost(job: u64, limit: usize) {
     text::print_number(limit as u64);
 }
 
-pub fn print_judgement(judgement: verdict::Judgement) {
+pub(crate) fn print_judgement(judgement: verdict::Judgement) {
     match judgement {
         verdict::Judgement::Kept => text::print(b"kept"),
         verdict::Judgement::Lost { job, limit } => print_lost(job, limit),
@@ -95,7 +95,7 @@ fn print_refused_set(which: u8, number: u8, at: usize) {
     text::print_number(which as u64);
 }
 
-pub fn print_compared(compared: compare::Compared) {
+pub(crate) fn print_compared(compared: compare::Compared) {
     let answer = compared.answer;
     match answer {
         CompareAnswer::Covers => text::print(b"covers"),
@@ -105,7 +105,7 @@ pub fn print_compared(compared: compare::Compared) {
 }
 
 // As `states 3`.
-pub fn print_checked(answer: TableAnswer) {
+pub(crate) fn print_checked(answer: TableAnswer) {
     match answer {
         TableAnswer::States(n) => {
             text::print(b"states ");
@@ -115,14 +115,14 @@ pub fn print_checked(answer: TableAnswer) {
     }
 }
 
-pub fn print_started(answer: StartAnswer) {
+pub(crate) fn print_started(answer: StartAnswer) {
     match answer {
         StartAnswer::Started => text::print(b"started"),
         StartAnswer::Refused { number, at } => text::print_refusal(number, at),
     }
 }
 
-pub fn print_asked(answer: AskAnswer) {
+pub(crate) fn print_asked(answer: AskAnswer) {
     match answer {
         AskAnswer::Normal => text::print(b"normal"),
         AskAnswer::Panic => text::print(b"panic"),
@@ -131,7 +131,7 @@ pub fn print_asked(answer: AskAnswer) {
     }
 }
 
-pub fn print_told(answer: TellAnswer) {
+pub(crate) fn print_told(answer: TellAnswer) {
     match answer {
         TellAnswer::Told => text::print(b"told"),
         TellAnswer::Refused { number, at } => text::print_refusal(number, at),
@@ -139,7 +139,7 @@ pub fn print_told(answer: TellAnswer) {
 }
 
 // As `state 1`, or `state 1 lost`.
-pub fn print_guard(guard: Guard) {
+pub(crate) fn print_guard(guard: Guard) {
     text::print(b"state ");
     text::print_number(guard.state as u64);
     if guard.lost {

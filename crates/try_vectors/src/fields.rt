@@ -7,7 +7,7 @@ ghost use lib.ListN.{length};
 ghost use Rattle.io.specs.Counts.{Counts};
 
 // The place of the first such byte from a place on, or the text's length where there is none.
-pub fn find(text: &[u8], byte: u8, from: usize) -> usize
+pub(crate) fn find(text: &[u8], byte: u8, from: usize) -> usize
     ensures { λ r. ⌜ (r ≤ length (now (text .entry))) × (from ≤ length (now (text .entry)) → from ≤ r) ⌝ }
 {
     let mut i = from;
@@ -20,7 +20,7 @@ pub fn find(text: &[u8], byte: u8, from: usize) -> usize
     text.len()
 }
 
-pub fn field(line: &[u8], number: usize) -> &[u8] {
+pub(crate) fn field(line: &[u8], number: usize) -> &[u8] {
     let mut start = 0;
     let mut i = 0;
     while i < number {
@@ -58,7 +58,7 @@ fn pair(high: u8, low: u8) -> u8 {
 }
 
 // Puts the bytes of a field at the start of `out`, and says how many there are.
-pub fn bytes(field: &[u8], out: &mut [u8]) -> usize
+pub(crate) fn bytes(field: &[u8], out: &mut [u8]) -> usize
     ensures { λ r. ⌜ Counts r (now (out .exit)) ⌝ }
 {
     let mut at = 0;
@@ -75,7 +75,7 @@ pub fn bytes(field: &[u8], out: &mut [u8]) -> usize
 }
 
 // Puts the outcomes of a field at the start of `out`, and says how many there are.
-pub fn outcomes(field: &[u8], out: &mut [u8]) -> usize
+pub(crate) fn outcomes(field: &[u8], out: &mut [u8]) -> usize
     ensures { λ r. ⌜ Counts r (now (out .exit)) ⌝ }
 {
     let end = find(field, b'-', 0);
@@ -91,7 +91,7 @@ pub fn outcomes(field: &[u8], out: &mut [u8]) -> usize
 }
 
 // A field's first byte as a number, 0 where it has none.
-pub fn number(field: &[u8]) -> usize
+pub(crate) fn number(field: &[u8]) -> usize
     ensures { λ r. ⌜ r < 256 ⌝ }
 {
     if field.len() < 2 {
@@ -101,7 +101,7 @@ pub fn number(field: &[u8]) -> usize
 }
 
 // The same as a buffer's size: at most 64.
-pub fn size(field: &[u8]) -> usize
+pub(crate) fn size(field: &[u8]) -> usize
     ensures { λ r. ⌜ r ≤ 64 ⌝ }
 {
     let n = number(field);

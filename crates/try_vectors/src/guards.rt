@@ -53,7 +53,7 @@ fn drive_on(guard: Guard, table_field: &[u8], actions: &[u8]) {
     drive(guard, &space[..n], actions);
 }
 
-pub fn try_new(line: &[u8]) {
+pub(crate) fn try_new(line: &[u8]) {
     let guard = Guard {
         state: 0,
         lost: false,
@@ -68,7 +68,7 @@ fn is_one(field: &[u8]) -> bool {
     field[0] == b'1'
 }
 
-pub fn try_by_hand(line: &[u8]) {
+pub(crate) fn try_by_hand(line: &[u8]) {
     let guard = Guard {
         state: tables::number_of(fields::field(line, 2)),
         lost: is_one(fields::field(line, 3)),

@@ -44,13 +44,13 @@ fn write_shown_whole(set: LimitSet, out: &mut [u8]) {
 }
 
 // Writes a set that was read, and shows the bytes that it took.
-pub fn write_again(set: LimitSet) {
+pub(crate) fn write_again(set: LimitSet) {
     let mut out = [0u8; 64];
     write_shown(set, &mut out);
 }
 
 // Writes the set that one field gives into a buffer of the size that the other gives, and shows the buffer.
-pub fn write_from(field: &[u8], size_field: &[u8]) {
+pub(crate) fn write_from(field: &[u8], size_field: &[u8]) {
     let mut bytes = [0u8; 64];
     let n = fields::bytes(field, &mut bytes);
     let set = set_of(&bytes[..n], fields::number(field));

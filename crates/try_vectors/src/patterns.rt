@@ -4,13 +4,13 @@ use crate::fields;
 use crate::memory;
 use crate::text;
 
-pub fn try_read(line: &[u8]) {
+pub(crate) fn try_read(line: &[u8]) {
     let mut space = [0u8; 64];
     let n = fields::bytes(fields::field(line, 1), &mut space);
     answers::print_read(sets::read_set(&space[..n]));
 }
 
-pub fn try_write(line: &[u8]) {
+pub(crate) fn try_write(line: &[u8]) {
     let mut space = [0u8; 64];
     let n = fields::bytes(fields::field(line, 1), &mut space);
     let read = sets::read_set(&space[..n]);
@@ -22,7 +22,7 @@ pub fn try_write(line: &[u8]) {
     memory::write_again(read.set);
 }
 
-pub fn try_judge(line: &[u8]) {
+pub(crate) fn try_judge(line: &[u8]) {
     let mut set = [0u8; 64];
     let mut pattern = [0u8; 64];
     let n = fields::bytes(fields::field(line, 1), &mut set);
@@ -30,7 +30,7 @@ pub fn try_judge(line: &[u8]) {
     answers::print_judgement(verdict::judge(&set[..n], &pattern[..jobs]));
 }
 
-pub fn try_compare(line: &[u8]) {
+pub(crate) fn try_compare(line: &[u8]) {
     let mut first = [0u8; 64];
     let mut second = [0u8; 64];
     let n = fields::bytes(fields::field(line, 1), &mut first);

@@ -5,7 +5,7 @@ use crate::answers;
 use crate::fields;
 
 // Four digits as a number, 0 where there are fewer.
-pub fn number_of(field: &[u8]) -> u16 {
+pub(crate) fn number_of(field: &[u8]) -> u16 {
     if field.len() < 4 {
         return 0;
     }
@@ -29,7 +29,7 @@ fn put_alike(n: u16, out: &mut [u8]) -> usize
 }
 
 // Puts the table at the start of `out`, which holds zeros, and says how many bytes it has.
-pub fn put(field: &[u8], out: &mut [u8]) -> usize
+pub(crate) fn put(field: &[u8], out: &mut [u8]) -> usize
     ensures { λ r. ⌜ Counts r (now (out .exit)) ⌝ }
 {
     if field.len() == 0 {
@@ -41,7 +41,7 @@ pub fn put(field: &[u8], out: &mut [u8]) -> usize
     put_alike(number_of(&field[1..]), out)
 }
 
-pub fn try_check(line: &[u8]) {
+pub(crate) fn try_check(line: &[u8]) {
     let mut space = io::large_buffer();
     let n = put(fields::field(line, 1), &mut space);
     answers::print_checked(table::check_table(&space[..n]));

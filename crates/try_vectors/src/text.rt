@@ -3,15 +3,15 @@
 // No contract can say what is written, so these are only proved safe, and ending.
 use libc::STDOUT_FILENO;
 
-pub fn print(text: &[u8]) {
+pub(crate) fn print(text: &[u8]) {
     io::write_all(STDOUT_FILENO, text);
 }
 
-pub fn print_line_end() {
+pub(crate) fn print_line_end() {
     print(b"\n");
 }
 
-pub fn print_number(n: u64) {
+pub(crate) fn print_number(n: u64) {
     io::print_decimal(STDOUT_FILENO, n);
 }
 
@@ -45,16 +45,16 @@ fn print_values(values: &[u8], count: usize, pairs: bool) {
     }
 }
 
-pub fn print_bytes(bytes: &[u8], count: usize) {
+pub(crate) fn print_bytes(bytes: &[u8], count: usize) {
     print_values(bytes, count, true);
 }
 
-pub fn print_outcomes(outcomes: &[u8], count: usize) {
+pub(crate) fn print_outcomes(outcomes: &[u8], count: usize) {
     print_values(outcomes, count, false);
 }
 
 // As `refused 3 at 0`.
-pub fn print_refusal(number: u8, at: usize) {
+pub(crate) fn print_refusal(number: u8, at: usize) {
     print(b"refused ");
     print_number(number as u64);
     print(b" at ");
