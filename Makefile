@@ -8,6 +8,7 @@ ARCHIVE = target/staticlib/libfloelinnet.a
 test: dist-links
 	cd tests && cargo test --release --offline --quiet
 	cd bindings/rust && cargo test --release --offline --quiet
+	cd bindings/rust && cargo run --release --offline --quiet --example recorder | diff - ../../examples/recorder.expected
 	rt ci
 
 # What C and C++ programs are built with, in a folder that can be moved elsewhere.
@@ -21,8 +22,7 @@ dist: $(ARCHIVE)
 .PHONY: dist-links
 dist-links: dist
 	$(CC) examples/recorder.c $$(PKG_CONFIG_PATH=dist/lib/pkgconfig pkg-config --cflags --libs floelinnet) -o target/recorder
-	target/recorder > target/recorder.printed
-	diff target/recorder.printed examples/recorder.expected
+	target/recorder | diff - examples/recorder.expected
 
 .PHONY: bench
 bench: $(ARCHIVE)
