@@ -6,9 +6,8 @@ ARCHIVE = target/staticlib/libfloelinnet.a
 # rt ci starts from nothing and removes target/, so it comes last, and its last line is the verdict.
 .PHONY: test
 test: dist-links
-	cd tests && cargo test --release --offline --quiet
-	cd bindings/rust && cargo test --release --offline --quiet
-	cd bindings/rust && cargo run --release --offline --quiet --example recorder | diff - ../../examples/recorder.expected
+	cargo test --release --offline --quiet
+	cargo run --release --offline --quiet --example recorder | diff - examples/recorder.expected
 	rt ci
 
 # What C and C++ programs are built with, in a folder that can be moved elsewhere.
@@ -26,7 +25,7 @@ dist-links: dist
 
 .PHONY: bench
 bench: $(ARCHIVE)
-	cd bench && cargo run --release --offline --quiet
+	cargo run --release --offline --quiet --package floelinnet-bench
 
 .PHONY: $(ARCHIVE)
 $(ARCHIVE):

@@ -1,7 +1,7 @@
 //! The exam recorder of a mobile vet: it reads breath and pulse four times a second, and one late reading is harmless,
 //! a bunch of them isn't. A guard says before each reading whether it may still be late.
 //!
-//! In bindings/rust: `cargo run --example recorder`
+//!     cargo run --example recorder
 
 use std::process::ExitCode;
 

@@ -1,7 +1,7 @@
 //! Times the archive beside straightforward Rust programs that do the same job, and prints the figures as a
-//! Markdown table for docs/BENCHMARKS.md. From this folder, after `rt staticlib floelinnet` in the root:
+//! Markdown table for docs/BENCHMARKS.md:
 //!
-//!     cargo run --release --offline
+//!     make bench
 //!
 //! FLOELINNET_ARCHIVE_DIR names another folder to take the archive from. A part has a module with its inputs, and
 //! one under `plain` with the program beside it. Before any timing both sides must give the same answer.
