@@ -1,4 +1,5 @@
 -- Each answer as a flat record: "Every answer begins with refused (0, or 01's number) and at (what 01 returns beside that number, else 0)."
+use mathlib.Core.Path.{_≡_}
 use Rattle.sets.specs.declared.SetAnswer.{SetAnswer}
 use Rattle.sets.specs.declared.SetAnswer.the-variants as set
 use Rattle.sets.specs.declared.SetRead.{SetRead}
@@ -33,6 +34,10 @@ use Rattle.floelinnet.specs.declared.FloeAsked.{FloeAsked}
 use Rattle.floelinnet.specs.declared.FloeTold.{FloeTold}
 use Rattle.floelinnet.specs.declared.FloeDone.{FloeDone}
 use Rattle.floelinnet.specs.declared.FloeRowAsked.{FloeRowAsked}
+
+-- what an exported function promises: there is an answer that the promise of the library function behind it allows, and the record is its flat form
+abbrev pub FlatAnswer : {A R : Type 0} → (A → Type 0) → (A → R) → R → Type 0
+FlatAnswer {A} promise flat r = (a : A) × promise a × (r ≡ flat a)
 
 abbrev pub flatSetOf : SetAnswer → LimitSet → FloeSetRead
 flatSetOf set.Accepted s = record { refused = 0; at = 0; set = s }

@@ -2,21 +2,13 @@
 // Every answer begins with the number of the refusal, 0 for none, and what the rules return beside it.
 ghost use mathlib.Core.Path.{_≡_};
 ghost use Rattle.meaning.specs.Longest.{longest};
-ghost use Rattle.sets.specs.declared.SetRead.{SetRead};
 ghost use Rattle.sets.specs.Read.{ReadAs};
-ghost use Rattle.verdict.specs.declared.Judgement.{Judgement};
 ghost use Rattle.verdict.specs.Judge.{JudgedAs};
-ghost use Rattle.compare.specs.declared.Compared.{Compared};
 ghost use Rattle.compare.specs.Compare.{ComparedAs};
-ghost use Rattle.builder.specs.declared.BuildAnswer.{BuildAnswer};
 ghost use Rattle.builder.specs.Build.{BuiltAs};
-ghost use Rattle.table.specs.declared.TableAnswer.{TableAnswer};
 ghost use Rattle.table.specs.Check.{CheckedAs};
-ghost use Rattle.guard.specs.declared.Started.{Started};
-ghost use Rattle.guard.specs.declared.Asked.{Asked};
-ghost use Rattle.guard.specs.declared.Told.{Told};
 ghost use Rattle.guard.specs.Guard.{startedOf, askedOf, toldOf};
-ghost use Rattle.floelinnet.specs.Flat.{flatSet, flatVerdict, flatComparison, flatBuilt, flatChecked, flatStarted, flatAsked, flatTold};
+ghost use Rattle.floelinnet.specs.Flat.{FlatAnswer, flatSet, flatVerdict, flatComparison, flatBuilt, flatChecked, flatStarted, flatAsked, flatTold};
 use guard::Guard;
 use meaning::LimitSet;
 
@@ -106,7 +98,7 @@ pub struct FloeRowAsked {
 
 #[no_mangle]
 pub extern "C" fn floe_read_set(set: &[u8]) -> FloeSetRead
-    ensures { λ r. ⌜ ((a : SetRead) × ReadAs longest (now (set .entry)) a × (r ≡ flatSet a)) ⌝ }
+    ensures { λ r. ⌜ FlatAnswer (ReadAs longest (now (set .entry))) flatSet r ⌝ }
 {
     let read = sets::read_set(set);
     let answer = read.answer;
@@ -127,7 +119,7 @@ pub extern "C" fn floe_read_set(set: &[u8]) -> FloeSetRead
 
 #[no_mangle]
 pub extern "C" fn floe_judge(set: &[u8], pattern: &[u8]) -> FloeVerdict
-    ensures { λ r. ⌜ ((a : Judgement) × JudgedAs longest (now (set .entry)) (now (pattern .entry)) a × (r ≡ flatVerdict a)) ⌝ }
+    ensures { λ r. ⌜ FlatAnswer (JudgedAs longest (now (set .entry)) (now (pattern .entry))) flatVerdict r ⌝ }
 {
     match verdict::judge(set, pattern) {
         verdict::Judgement::Kept => FloeVerdict {
@@ -153,7 +145,7 @@ pub extern "C" fn floe_judge(set: &[u8], pattern: &[u8]) -> FloeVerdict
 
 #[no_mangle]
 pub extern "C" fn floe_compare(first: &[u8], second: &[u8]) -> FloeComparison
-    ensures { λ r. ⌜ ((a : Compared) × ComparedAs longest (now (first .entry)) (now (second .entry)) a × (r ≡ flatComparison a)) ⌝ }
+    ensures { λ r. ⌜ FlatAnswer (ComparedAs longest (now (first .entry)) (now (second .entry))) flatComparison r ⌝ }
 {
     let compared = compare::compare(first, second);
     let answer = compared.answer;
@@ -189,7 +181,7 @@ pub extern "C" fn floe_compare(first: &[u8], second: &[u8]) -> FloeComparison
 
 #[no_mangle]
 pub extern "C" fn floe_build(set: &[u8], work: &mut [u16], table: &mut [u8]) -> FloeBuilt
-    ensures { λ r. ⌜ ((a : BuildAnswer) × BuiltAs longest (now (set .entry)) (now (work .entry)) (now (work .exit)) (now (table .entry)) (now (table .exit)) a × (r ≡ flatBuilt a)) ⌝ }
+    ensures { λ r. ⌜ FlatAnswer (BuiltAs longest (now (set .entry)) (now (work .entry)) (now (work .exit)) (now (table .entry)) (now (table .exit))) flatBuilt r ⌝ }
 {
     match builder::build(set, work, table) {
         builder::BuildAnswer::Built(length) => FloeBuilt {
@@ -207,7 +199,7 @@ pub extern "C" fn floe_build(set: &[u8], work: &mut [u16], table: &mut [u8]) -> 
 
 #[no_mangle]
 pub extern "C" fn floe_check_table(table: &[u8]) -> FloeChecked
-    ensures { λ r. ⌜ ((a : TableAnswer) × CheckedAs (now (table .entry)) a × (r ≡ flatChecked a)) ⌝ }
+    ensures { λ r. ⌜ FlatAnswer (CheckedAs (now (table .entry))) flatChecked r ⌝ }
 {
     match table::check_table(table) {
         table::TableAnswer::States(states) => FloeChecked {
@@ -225,7 +217,7 @@ pub extern "C" fn floe_check_table(table: &[u8]) -> FloeChecked
 
 #[no_mangle]
 pub extern "C" fn floe_guard_start(table: &[u8]) -> FloeStarted
-    ensures { λ r. ⌜ ((a : Started) × (a ≡ startedOf (now (table .entry))) × (r ≡ flatStarted a)) ⌝ }
+    ensures { λ r. ⌜ FlatAnswer (λ a. a ≡ startedOf (now (table .entry))) flatStarted r ⌝ }
 {
     let started = Guard::start(table);
     let answer = started.answer;
@@ -246,7 +238,7 @@ pub extern "C" fn floe_guard_start(table: &[u8]) -> FloeStarted
 
 #[no_mangle]
 pub extern "C" fn floe_guard_ask(guard: Guard, table: &[u8]) -> FloeAsked
-    ensures { λ r. ⌜ ((a : Asked) × (a ≡ askedOf (now (table .entry)) guard) × (r ≡ flatAsked a)) ⌝ }
+    ensures { λ r. ⌜ FlatAnswer (λ a. a ≡ askedOf (now (table .entry)) guard) flatAsked r ⌝ }
 {
     let asked = guard.ask(table);
     let answer = asked.answer;
@@ -281,7 +273,7 @@ pub extern "C" fn floe_guard_ask(guard: Guard, table: &[u8]) -> FloeAsked
 
 #[no_mangle]
 pub extern "C" fn floe_guard_tell(guard: Guard, table: &[u8], outcome: u8) -> FloeTold
-    ensures { λ r. ⌜ ((a : Told) × (a ≡ toldOf (now (table .entry)) guard outcome) × (r ≡ flatTold a)) ⌝ }
+    ensures { λ r. ⌜ FlatAnswer (λ a. a ≡ toldOf (now (table .entry)) guard outcome) flatTold r ⌝ }
 {
     let told = guard.tell(table, outcome);
     let answer = told.answer;

@@ -1,10 +1,7 @@
 // The boundary's row: each function says in a flat record what the library function on the lent row answers.
 ghost use mathlib.Core.Path.{_≡_};
-ghost use Rattle.guard.specs.declared.StartAnswer.{StartAnswer};
-ghost use Rattle.guard.specs.declared.AskAnswer.{AskAnswer};
-ghost use Rattle.guard.specs.declared.TellAnswer.{TellAnswer};
 ghost use Rattle.guard.specs.Row.{rowStartedOf, rowAskedOf, rowToldOf};
-ghost use Rattle.floelinnet.specs.Flat.{flatRowStarted, flatRowAsked, flatRowTold};
+ghost use Rattle.floelinnet.specs.Flat.{FlatAnswer, flatRowStarted, flatRowAsked, flatRowTold};
 use super::FloeDone;
 use super::FloeRowAsked;
 use guard::Guard;
@@ -62,14 +59,14 @@ fn told(answer: guard::TellAnswer) -> FloeDone
 
 #[no_mangle]
 pub extern "C" fn floe_row_start(row: &mut [Guard], job: usize, table: &[u8]) -> FloeDone
-    ensures { λ r. ⌜ ((a : StartAnswer) × ((a, now (row .exit)) ≡ rowStartedOf (now (row .entry)) job (now (table .entry))) × (r ≡ flatRowStarted a)) ⌝ }
+    ensures { λ r. ⌜ FlatAnswer (λ a. (a, now (row .exit)) ≡ rowStartedOf (now (row .entry)) job (now (table .entry))) flatRowStarted r ⌝ }
 {
     started(guard::row::start(row, job, table))
 }
 
 #[no_mangle]
 pub extern "C" fn floe_row_ask(row: &[Guard], job: usize, table: &[u8]) -> FloeRowAsked
-    ensures { λ r. ⌜ ((a : AskAnswer) × (a ≡ rowAskedOf (now (row .entry)) job (now (table .entry))) × (r ≡ flatRowAsked a)) ⌝ }
+    ensures { λ r. ⌜ FlatAnswer (λ a. a ≡ rowAskedOf (now (row .entry)) job (now (table .entry))) flatRowAsked r ⌝ }
 {
     asked(guard::row::ask(row, job, table))
 }
@@ -81,7 +78,7 @@ pub extern "C" fn floe_row_tell(
     table: &[u8],
     outcome: u8,
 ) -> FloeDone
-    ensures { λ r. ⌜ ((a : TellAnswer) × ((a, now (row .exit)) ≡ rowToldOf (now (row .entry)) job (now (table .entry)) outcome) × (r ≡ flatRowTold a)) ⌝ }
+    ensures { λ r. ⌜ FlatAnswer (λ a. (a, now (row .exit)) ≡ rowToldOf (now (row .entry)) job (now (table .entry)) outcome) flatRowTold r ⌝ }
 {
     told(guard::row::tell(row, job, table, outcome))
 }
