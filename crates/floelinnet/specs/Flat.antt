@@ -67,41 +67,28 @@ abbrev pub flatChecked : TableAnswer → FloeChecked
 flatChecked (checked.States states) = record { refused = 0; at = 0; states = states }
 flatChecked (checked.Refused number at) = record { refused = number; at = at; states = 0 }
 
-abbrev pub flatStartedOf : StartAnswer → Guard → FloeStarted
-flatStartedOf start.Started g = record { refused = 0; at = 0; guard = g }
-flatStartedOf (start.Refused number at) g = record { refused = number; at = at; guard = g }
-
-abbrev pub flatStarted : Started → FloeStarted
-flatStarted a = flatStartedOf (a .answer) (a .guard)
+-- a guard's calls: what is said of the answer, alone where the guards stay in a row
+abbrev pub flatStart : StartAnswer → FloeDone
+flatStart start.Started = record { refused = 0; at = 0 }
+flatStart (start.Refused number at) = record { refused = number; at = at }
 
 -- "0 normal, 1 panic, 2 lost"; 0 on a refusal
-abbrev pub flatAskedOf : AskAnswer → Guard → FloeAsked
-flatAskedOf ask.Normal g = record { refused = 0; at = 0; answer = 0; guard = g }
-flatAskedOf ask.Panic g = record { refused = 0; at = 0; answer = 1; guard = g }
-flatAskedOf ask.Lost g = record { refused = 0; at = 0; answer = 2; guard = g }
-flatAskedOf (ask.Refused number at) g = record { refused = number; at = at; answer = 0; guard = g }
+abbrev pub flatAsk : AskAnswer → FloeRowAsked
+flatAsk ask.Normal = record { refused = 0; at = 0; answer = 0 }
+flatAsk ask.Panic = record { refused = 0; at = 0; answer = 1 }
+flatAsk ask.Lost = record { refused = 0; at = 0; answer = 2 }
+flatAsk (ask.Refused number at) = record { refused = number; at = at; answer = 0 }
+
+abbrev pub flatTell : TellAnswer → FloeDone
+flatTell tell.Told = record { refused = 0; at = 0 }
+flatTell (tell.Refused number at) = record { refused = number; at = at }
+
+-- and beside it the guard where it is passed by value
+abbrev pub flatStarted : Started → FloeStarted
+flatStarted a = let said = flatStart (a .answer) in record { refused = said .refused; at = said .at; guard = a .guard }
 
 abbrev pub flatAsked : Asked → FloeAsked
-flatAsked a = flatAskedOf (a .answer) (a .guard)
-
-abbrev pub flatToldOf : TellAnswer → Guard → FloeTold
-flatToldOf tell.Told g = record { refused = 0; at = 0; guard = g }
-flatToldOf (tell.Refused number at) g = record { refused = number; at = at; guard = g }
+flatAsked a = let said = flatAsk (a .answer) in record { refused = said .refused; at = said .at; answer = said .answer; guard = a .guard }
 
 abbrev pub flatTold : Told → FloeTold
-flatTold a = flatToldOf (a .answer) (a .guard)
-
--- a call on a row: the guards stay in the row
-abbrev pub flatRowStarted : StartAnswer → FloeDone
-flatRowStarted start.Started = record { refused = 0; at = 0 }
-flatRowStarted (start.Refused number at) = record { refused = number; at = at }
-
-abbrev pub flatRowAsked : AskAnswer → FloeRowAsked
-flatRowAsked ask.Normal = record { refused = 0; at = 0; answer = 0 }
-flatRowAsked ask.Panic = record { refused = 0; at = 0; answer = 1 }
-flatRowAsked ask.Lost = record { refused = 0; at = 0; answer = 2 }
-flatRowAsked (ask.Refused number at) = record { refused = number; at = at; answer = 0 }
-
-abbrev pub flatRowTold : TellAnswer → FloeDone
-flatRowTold tell.Told = record { refused = 0; at = 0 }
-flatRowTold (tell.Refused number at) = record { refused = number; at = at }
+flatTold a = let said = flatTell (a .answer) in record { refused = said .refused; at = said .at; guard = a .guard }

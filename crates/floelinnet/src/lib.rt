@@ -12,6 +12,7 @@ ghost use Rattle.floelinnet.specs.Flat.{FlatAnswer, flatSet, flatVerdict
 use guard::Guard;
 use meaning::LimitSet;
 
+mod flat;
 mod row;
 
 pub use row::floe_row_ask;
@@ -222,17 +223,11 @@ pub extern "C" fn floe_guard_start(table: &[u8]) -> FloeStarted
     let started = Guard::start(table);
     let answer = started.answer;
     let fresh = started.guard;
-    match answer {
-        guard::StartAnswer::Started => FloeStarted {
-            refused: 0,
-            at: 0,
-            guard: fresh,
-        },
-        guard::StartAnswer::Refused { number, at } => FloeStarted {
-            refused: number as u64,
-            at: at as u64,
-            guard: fresh,
-        },
+    let said = flat::started(answer);
+    FloeStarted {
+        refused: said.refused,
+        at: said.at,
+        guard: fresh,
     }
 }
 
@@ -243,31 +238,12 @@ pub extern "C" fn floe_guard_ask(guard: Guard, table: &[u8]) -> FloeAsked
     let asked = guard.ask(table);
     let answer = asked.answer;
     let same = asked.guard;
-    match answer {
-        guard::AskAnswer::Normal => FloeAsked {
-            refused: 0,
-            at: 0,
-            answer: 0,
-            guard: same,
-        },
-        guard::AskAnswer::Panic => FloeAsked {
-            refused: 0,
-            at: 0,
-            answer: 1,
-            guard: same,
-        },
-        guard::AskAnswer::Lost => FloeAsked {
-            refused: 0,
-            at: 0,
-            answer: 2,
-            guard: same,
-        },
-        guard::AskAnswer::Refused { number, at } => FloeAsked {
-            refused: number as u64,
-            at: at as u64,
-            answer: 0,
-            guard: same,
-        },
+    let said = flat::asked(answer);
+    FloeAsked {
+        refused: said.refused,
+        at: said.at,
+        answer: said.answer,
+        guard: same,
     }
 }
 
@@ -278,16 +254,10 @@ pub extern "C" fn floe_guard_tell(guard: Guard, table: &[u8], outcome: u8) -> Fl
     let told = guard.tell(table, outcome);
     let answer = told.answer;
     let after = told.guard;
-    match answer {
-        guard::TellAnswer::Told => FloeTold {
-            refused: 0,
-            at: 0,
-            guard: after,
-        },
-        guard::TellAnswer::Refused { number, at } => FloeTold {
-            refused: number as u64,
-            at: at as u64,
-            guard: after,
-        },
+    let said = flat::told(answer);
+    FloeTold {
+        refused: said.refused,
+        at: said.at,
+        guard: after,
     }
 }

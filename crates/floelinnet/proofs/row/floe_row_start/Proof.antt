@@ -1,4 +1,4 @@
--- `floelinnet::floe_row_start` meets its contract: a walk of its MIR, by hand. The row is passed on to `guard::row::start` for good, and its answer to `started`.
+-- `floelinnet::floe_row_start` meets its contract: a walk of its MIR, by hand. The row is passed on to `guard::row::start` for good, and its answer to `flat::started`.
 -- All that the proof knows of the two is that each meets its contract.
 -- Assumes nothing.
 use mathlib.Core.Path.{_≡_, refl}
@@ -49,13 +49,13 @@ use Rattle.guard.proofs.row.start.Symbol as inner-def
 use Rattle.guard.proofs.row.start.Symbol.{name as #guard·row·start}
 use Rattle.guard.proofs.row.start.Met as inner-thm
 use Rattle.floelinnet.specs.declared.FloeDone.{FloeDone}
-use Rattle.floelinnet.specs.Flat.{flatRowStarted}
+use Rattle.floelinnet.specs.Flat.{flatStart}
 use Rattle.floelinnet.proofs.FloeDone as F
 use Rattle.floelinnet.proofs.FloeDone.Laws as F′
-use Rattle.floelinnet.proofs.row.started as flat
-use Rattle.floelinnet.proofs.row.started.Symbol as flat-def
-use Rattle.floelinnet.proofs.row.started.Symbol.{name as #floelinnet·row·started}
-use Rattle.floelinnet.proofs.row.started.Met as flat-thm
+use Rattle.floelinnet.proofs.flat.started as flat
+use Rattle.floelinnet.proofs.flat.started.Symbol as flat-def
+use Rattle.floelinnet.proofs.flat.started.Symbol.{name as #floelinnet·flat·started}
+use Rattle.floelinnet.proofs.flat.started.Met as flat-thm
 use Rattle.floelinnet.proofs.row.floe_row_start.Key.{name as #floelinnet·row·floe-row-start}
 use Rattle.floelinnet.proofs.row.floe_row_start as start
 use Rattle.floelinnet.proofs.row.floe_row_start.Statement as stated
@@ -99,7 +99,7 @@ module _ {M : Type 1} (𝓤 : URA M) (H : Heap 𝓤) (A : Atoms 𝓤) (W : Given
   abbrev Post : Val → SProp 𝓤
   Post = walkOf 𝓤 H A start.ended stayed (start.clauses 𝓤 H A mem run) .post bound
 
-  exits : (r : StartAnswer) (f : FloeDone) (m : Val) (zs : List Guard) → (r, zs) ≡ rowStartedOf ys job (table .now) → f ≡ flatRowStarted r → length zs ≡ length ys
+  exits : (r : StartAnswer) (f : FloeDone) (m : Val) (zs : List Guard) → (r, zs) ≡ rowStartedOf ys job (table .now) → f ≡ flatStart r → length zs ≡ length ys
       → ent 𝓤 (⋆ 𝓤 H A ((‵ (flft κ q) ⊛ (‵ (flft κ′ q′) ⊛ ‵ ftrue)) ∷ ‵ (finally G.the-row γ zs) ∷ ‵ (F.the-row .own f (m ∷ [])) ∷ ‵ Table ∷ [])) (Post m)
   exits r f m zs row-is flat-is same =
       qed W ((‵ (flft κ q) ⊛ (‵ (flft κ′ q′) ⊛ ‵ ftrue)) ∷ ‵ (finally G.the-row γ zs) ∷ ‵ (F.the-row .own f (m ∷ [])) ∷ ‵ Table ∷ []) ∵
@@ -125,10 +125,10 @@ module _ {M : Type 1} (𝓤 : URA M) (H : Heap 𝓤) (A : Atoms 𝓤) (W : Given
   goes-flat : (r : StartAnswer) (v : Val) → ent 𝓤 (sem 𝓤 H A (S.the-row .own r (v ∷ []))) (Flat 𝓤 H A mem run .pre (to-flat r v))
   goes-flat r v = qed W (‵ (S.the-row .own r (v ∷ [])) ∷ []) ∵ nothing ! $ move ! (1 ∷ 0 ∷ []) $ join ! $ nothing ! $ join ! $ frame ! $ done !
 
-  flat-says : (r : StartAnswer) (f : FloeDone) → ent 𝓤 (ensured 𝓤 H A flat.ended (flat.clauses 𝓤 H A mem run) tt (r, tt) tt f) (fact 𝓤 (f ≡ flatRowStarted r))
-  flat-says r f = exE 𝓤 _ (λ ws. snd∗ 𝓤 (sem 𝓤 H A (lasts flat.ended tt (r, tt) ws)) (fact 𝓤 (f ≡ flatRowStarted r)))
+  flat-says : (r : StartAnswer) (f : FloeDone) → ent 𝓤 (ensured 𝓤 H A flat.ended (flat.clauses 𝓤 H A mem run) tt (r, tt) tt f) (fact 𝓤 (f ≡ flatStart r))
+  flat-says r f = exE 𝓤 _ (λ ws. snd∗ 𝓤 (sem 𝓤 H A (lasts flat.ended tt (r, tt) ws)) (fact 𝓤 (f ≡ flatStart r)))
 
-  module _ (C : Calls 𝓤 H) (Λ : Loops 𝓤 H) (fm : FmC 𝓤 H (W .laws) C) (known-inner : Triple 𝓤 (C #guard·row·start) (Inner 𝓤 H A mem run)) (known-flat : Triple 𝓤 (C #floelinnet·row·started) (Flat 𝓤 H A mem run)) where
+  module _ (C : Calls 𝓤 H) (Λ : Loops 𝓤 H) (fm : FmC 𝓤 H (W .laws) C) (known-inner : Triple 𝓤 (C #guard·row·start) (Inner 𝓤 H A mem run)) (known-flat : Triple 𝓤 (C #floelinnet·flat·started) (Flat 𝓤 H A mem run)) where
     walk : ent 𝓤 (onEntry 𝓤 H A start.signature (κ, (κ′, tt)) (q, (q′, tt)) a vals) (WpFn 𝓤 H C Λ code.function (s ∷ vint w64 job ∷ t ∷ []) Post)
     walk =
         qed W (raw (onEntry 𝓤 H A start.signature (κ, (κ′, tt)) (q, (q′, tt)) a vals) ∷ []) ∵ use1 W (raw (Inner 𝓤 H A mem run .pre to-inner) ⊛ ‵ Table) goes-inner $ split ! $
@@ -148,7 +148,7 @@ module _ {M : Type 1} (𝓤 : URA M) (H : Heap 𝓤) (A : Atoms 𝓤) (W : Given
         land ! (from ! (stop !)) (init ! 8 refl (EL.lawful S.the-type S′.the-laws 𝓤 H A W tt .typed r _ is .0)) $ use1 W (raw (Flat 𝓤 H A mem run .pre (to-flat r v))) (goes-flat r v) $
         calls-at ! fm (Flat 𝓤 H A mem run) known-flat (to-flat r v) (and-then ! (load ! (from ! (stop !)) (look ! 8 refl)) (no-more !)) (λ w.
         use1 W (later (some (λ (f : FloeDone). (‵ ftrue ⊛ ‵ (F.the-row .own f (w ∷ []))) ⊛ raw (ensured 𝓤 H A flat.ended (flat.clauses 𝓤 H A mem run) tt (r, tt) tt f)))) (id⊢ 𝓤 _) $ await ! tt $ pick ! (λ f.
-        split ! $ move ! (1 ∷ []) $ use1 W (raw (fact 𝓤 (f ≡ flatRowStarted r))) (flat-says r f) $ heard ! (f ≡ flatRowStarted r) (λ flat-is. split ! $ drop ! $
+        split ! $ move ! (1 ∷ []) $ use1 W (raw (fact 𝓤 (f ≡ flatStart r))) (flat-says r f) $ heard ! (f ≡ flatStart r) (λ flat-is. split ! $ drop ! $
         peeks ! F.the-row (Is F.the-row) (shows 𝓤 H A F.the-row) f (w ∷ []) (λ is-flat.
         land ! (from ! (stop !)) (init ! 16 refl (LL.lawful F.the-type F′.the-laws 𝓤 H A W .typed f _ is-flat .0)) $
         returns ! (look ! 16 refl) $ forget ! 4 refl $ forget ! 6 refl $ forget ! 8 refl $ forget ! 10 refl $ forget ! 12 refl $ forget ! 14 refl $ forget ! 16 refl $
@@ -156,7 +156,7 @@ module _ {M : Type 1} (𝓤 : URA M) (H : Heap 𝓤) (A : Atoms 𝓤) (W : Given
         keep ! (1 ∷ 2 ∷ 0 ∷ 4 ∷ []) $ by ! (exits r f w (zs .0) row-is flat-is same))))))))))))))))))
 
 start-meets : {M : Type 1} (𝓤 : URA M) (H : Heap 𝓤) (A : Atoms 𝓤) → Given 𝓤 H A → (mem : Memory → SProp 𝓤) (run : Routine → Fun 𝓤) (𝓣 : Tables 𝓤 H)
-    → Triple 𝓤 (𝓣 .C #guard·row·start) (Inner 𝓤 H A mem run) → Triple 𝓤 (𝓣 .C #floelinnet·row·started) (Flat 𝓤 H A mem run)
+    → Triple 𝓤 (𝓣 .C #guard·row·start) (Inner 𝓤 H A mem run) → Triple 𝓤 (𝓣 .C #floelinnet·flat·started) (Flat 𝓤 H A mem run)
     → Meets 𝓤 H A start.signature (WpFn 𝓤 H (𝓣 .C) (𝓣 .Λ) code.function) (start.spec 𝓤 H A mem run)
 start-meets 𝓤 H A W mem run 𝓣 known-inner known-flat =
     walk-meets 𝓤 H A start.ended stayed W
@@ -175,4 +175,4 @@ floe-row-start-spec 𝓤 H 𝓜 𝓖 𝓡 =
     (tables 𝓤 H 𝓜 𝓡 code.env .C) (tables 𝓤 H 𝓜 𝓡 code.env .Λ) #floelinnet·row·floe-row-start code.function (code.unfolded 𝓤 H 𝓜 𝓡)
     (start-meets 𝓤 H (𝓖 .A) (givenOf 𝓤 H 𝓜 𝓖) (𝓜 .mem) (𝓡 .run) (tablesOf 𝓤 H 𝓜 (tables 𝓤 H 𝓜 𝓡 code.env))
     (cited 𝓤 H (Inner 𝓤 H (𝓖 .A) (𝓜 .mem) (𝓡 .run)) 𝓜 𝓡 code.env #guard·row·start inner-def.routine code.calls-guard·row·start (inner-thm.met 𝓤 H 𝓜 𝓖 𝓡))
-    (cited 𝓤 H (Flat 𝓤 H (𝓖 .A) (𝓜 .mem) (𝓡 .run)) 𝓜 𝓡 code.env #floelinnet·row·started flat-def.routine code.calls-floelinnet·row·started (flat-thm.met 𝓤 H 𝓜 𝓖 𝓡)))
+    (cited 𝓤 H (Flat 𝓤 H (𝓖 .A) (𝓜 .mem) (𝓡 .run)) 𝓜 𝓡 code.env #floelinnet·flat·started flat-def.routine code.calls-floelinnet·flat·started (flat-thm.met 𝓤 H 𝓜 𝓖 𝓡)))

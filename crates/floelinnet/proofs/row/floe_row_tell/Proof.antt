@@ -1,4 +1,4 @@
--- `floelinnet::floe_row_tell` meets its contract: a walk of its MIR, by hand. The row is passed on to `guard::row::tell` for good, and its answer to `told`.
+-- `floelinnet::floe_row_tell` meets its contract: a walk of its MIR, by hand. The row is passed on to `guard::row::tell` for good, and its answer to `flat::told`.
 -- All that the proof knows of the two is that each meets its contract.
 -- Assumes nothing.
 use mathlib.Core.Path.{_≡_, refl}
@@ -49,13 +49,13 @@ use Rattle.guard.proofs.row.tell.Symbol as inner-def
 use Rattle.guard.proofs.row.tell.Symbol.{name as #guard·row·tell}
 use Rattle.guard.proofs.row.tell.Met as inner-thm
 use Rattle.floelinnet.specs.declared.FloeDone.{FloeDone}
-use Rattle.floelinnet.specs.Flat.{flatRowTold}
+use Rattle.floelinnet.specs.Flat.{flatTell}
 use Rattle.floelinnet.proofs.FloeDone as F
 use Rattle.floelinnet.proofs.FloeDone.Laws as F′
-use Rattle.floelinnet.proofs.row.told as flat
-use Rattle.floelinnet.proofs.row.told.Symbol as flat-def
-use Rattle.floelinnet.proofs.row.told.Symbol.{name as #floelinnet·row·told}
-use Rattle.floelinnet.proofs.row.told.Met as flat-thm
+use Rattle.floelinnet.proofs.flat.told as flat
+use Rattle.floelinnet.proofs.flat.told.Symbol as flat-def
+use Rattle.floelinnet.proofs.flat.told.Symbol.{name as #floelinnet·flat·told}
+use Rattle.floelinnet.proofs.flat.told.Met as flat-thm
 use Rattle.floelinnet.proofs.row.floe_row_tell.Key.{name as #floelinnet·row·floe-row-tell}
 use Rattle.floelinnet.proofs.row.floe_row_tell as tell
 use Rattle.floelinnet.proofs.row.floe_row_tell.Statement as stated
@@ -99,7 +99,7 @@ module _ {M : Type 1} (𝓤 : URA M) (H : Heap 𝓤) (A : Atoms 𝓤) (W : Given
   abbrev Post : Val → SProp 𝓤
   Post = walkOf 𝓤 H A tell.ended stayed (tell.clauses 𝓤 H A mem run) .post bound
 
-  exits : (r : TellAnswer) (f : FloeDone) (m : Val) (zs : List Guard) → (r, zs) ≡ rowToldOf ys job (table .now) byte → f ≡ flatRowTold r → length zs ≡ length ys
+  exits : (r : TellAnswer) (f : FloeDone) (m : Val) (zs : List Guard) → (r, zs) ≡ rowToldOf ys job (table .now) byte → f ≡ flatTell r → length zs ≡ length ys
       → ent 𝓤 (⋆ 𝓤 H A ((‵ (flft κ q) ⊛ (‵ (flft κ′ q′) ⊛ ‵ ftrue)) ∷ ‵ (finally G.the-row γ zs) ∷ ‵ (F.the-row .own f (m ∷ [])) ∷ ‵ Table ∷ [])) (Post m)
   exits r f m zs row-is flat-is same =
       qed W ((‵ (flft κ q) ⊛ (‵ (flft κ′ q′) ⊛ ‵ ftrue)) ∷ ‵ (finally G.the-row γ zs) ∷ ‵ (F.the-row .own f (m ∷ [])) ∷ ‵ Table ∷ []) ∵
@@ -125,10 +125,10 @@ module _ {M : Type 1} (𝓤 : URA M) (H : Heap 𝓤) (A : Atoms 𝓤) (W : Given
   goes-flat : (r : TellAnswer) (v : Val) → ent 𝓤 (sem 𝓤 H A (S.the-row .own r (v ∷ []))) (Flat 𝓤 H A mem run .pre (to-flat r v))
   goes-flat r v = qed W (‵ (S.the-row .own r (v ∷ [])) ∷ []) ∵ nothing ! $ move ! (1 ∷ 0 ∷ []) $ join ! $ nothing ! $ join ! $ frame ! $ done !
 
-  flat-says : (r : TellAnswer) (f : FloeDone) → ent 𝓤 (ensured 𝓤 H A flat.ended (flat.clauses 𝓤 H A mem run) tt (r, tt) tt f) (fact 𝓤 (f ≡ flatRowTold r))
-  flat-says r f = exE 𝓤 _ (λ ws. snd∗ 𝓤 (sem 𝓤 H A (lasts flat.ended tt (r, tt) ws)) (fact 𝓤 (f ≡ flatRowTold r)))
+  flat-says : (r : TellAnswer) (f : FloeDone) → ent 𝓤 (ensured 𝓤 H A flat.ended (flat.clauses 𝓤 H A mem run) tt (r, tt) tt f) (fact 𝓤 (f ≡ flatTell r))
+  flat-says r f = exE 𝓤 _ (λ ws. snd∗ 𝓤 (sem 𝓤 H A (lasts flat.ended tt (r, tt) ws)) (fact 𝓤 (f ≡ flatTell r)))
 
-  module _ (C : Calls 𝓤 H) (Λ : Loops 𝓤 H) (fm : FmC 𝓤 H (W .laws) C) (known-inner : Triple 𝓤 (C #guard·row·tell) (Inner 𝓤 H A mem run)) (known-flat : Triple 𝓤 (C #floelinnet·row·told) (Flat 𝓤 H A mem run)) where
+  module _ (C : Calls 𝓤 H) (Λ : Loops 𝓤 H) (fm : FmC 𝓤 H (W .laws) C) (known-inner : Triple 𝓤 (C #guard·row·tell) (Inner 𝓤 H A mem run)) (known-flat : Triple 𝓤 (C #floelinnet·flat·told) (Flat 𝓤 H A mem run)) where
     walk : ent 𝓤 (onEntry 𝓤 H A tell.signature (κ, (κ′, tt)) (q, (q′, tt)) a vals) (WpFn 𝓤 H C Λ code.function (s ∷ vint w64 job ∷ t ∷ vint w8 byte ∷ []) Post)
     walk =
         qed W (raw (onEntry 𝓤 H A tell.signature (κ, (κ′, tt)) (q, (q′, tt)) a vals) ∷ []) ∵ use1 W (raw (Inner 𝓤 H A mem run .pre to-inner) ⊛ ‵ Table) goes-inner $ split ! $
@@ -148,7 +148,7 @@ module _ {M : Type 1} (𝓤 : URA M) (H : Heap 𝓤) (A : Atoms 𝓤) (W : Given
         land ! (from ! (stop !)) (init ! 8 refl (EL.lawful S.the-type S′.the-laws 𝓤 H A W tt .typed r _ is .0)) $ use1 W (raw (Flat 𝓤 H A mem run .pre (to-flat r v))) (goes-flat r v) $
         calls-at ! fm (Flat 𝓤 H A mem run) known-flat (to-flat r v) (and-then ! (load ! (from ! (stop !)) (look ! 8 refl)) (no-more !)) (λ w.
         use1 W (later (some (λ (f : FloeDone). (‵ ftrue ⊛ ‵ (F.the-row .own f (w ∷ []))) ⊛ raw (ensured 𝓤 H A flat.ended (flat.clauses 𝓤 H A mem run) tt (r, tt) tt f)))) (id⊢ 𝓤 _) $ await ! tt $ pick ! (λ f.
-        split ! $ move ! (1 ∷ []) $ use1 W (raw (fact 𝓤 (f ≡ flatRowTold r))) (flat-says r f) $ heard ! (f ≡ flatRowTold r) (λ flat-is. split ! $ drop ! $
+        split ! $ move ! (1 ∷ []) $ use1 W (raw (fact 𝓤 (f ≡ flatTell r))) (flat-says r f) $ heard ! (f ≡ flatTell r) (λ flat-is. split ! $ drop ! $
         peeks ! F.the-row (Is F.the-row) (shows 𝓤 H A F.the-row) f (w ∷ []) (λ is-flat.
         land ! (from ! (stop !)) (init ! 18 refl (LL.lawful F.the-type F′.the-laws 𝓤 H A W .typed f _ is-flat .0)) $
         returns ! (look ! 18 refl) $ forget ! 4 refl $ forget ! 6 refl $ forget ! 8 refl $ forget ! 10 refl $ forget ! 12 refl $ forget ! 14 refl $ forget ! 16 refl $ forget ! 18 refl $
@@ -156,7 +156,7 @@ module _ {M : Type 1} (𝓤 : URA M) (H : Heap 𝓤) (A : Atoms 𝓤) (W : Given
         keep ! (1 ∷ 2 ∷ 0 ∷ 4 ∷ []) $ by ! (exits r f w (zs .0) row-is flat-is same)))))))))))))))))))
 
 tell-meets : {M : Type 1} (𝓤 : URA M) (H : Heap 𝓤) (A : Atoms 𝓤) → Given 𝓤 H A → (mem : Memory → SProp 𝓤) (run : Routine → Fun 𝓤) (𝓣 : Tables 𝓤 H)
-    → Triple 𝓤 (𝓣 .C #guard·row·tell) (Inner 𝓤 H A mem run) → Triple 𝓤 (𝓣 .C #floelinnet·row·told) (Flat 𝓤 H A mem run)
+    → Triple 𝓤 (𝓣 .C #guard·row·tell) (Inner 𝓤 H A mem run) → Triple 𝓤 (𝓣 .C #floelinnet·flat·told) (Flat 𝓤 H A mem run)
     → Meets 𝓤 H A tell.signature (WpFn 𝓤 H (𝓣 .C) (𝓣 .Λ) code.function) (tell.spec 𝓤 H A mem run)
 tell-meets 𝓤 H A W mem run 𝓣 known-inner known-flat =
     walk-meets 𝓤 H A tell.ended stayed W
@@ -175,4 +175,4 @@ floe-row-tell-spec 𝓤 H 𝓜 𝓖 𝓡 =
     (tables 𝓤 H 𝓜 𝓡 code.env .C) (tables 𝓤 H 𝓜 𝓡 code.env .Λ) #floelinnet·row·floe-row-tell code.function (code.unfolded 𝓤 H 𝓜 𝓡)
     (tell-meets 𝓤 H (𝓖 .A) (givenOf 𝓤 H 𝓜 𝓖) (𝓜 .mem) (𝓡 .run) (tablesOf 𝓤 H 𝓜 (tables 𝓤 H 𝓜 𝓡 code.env))
     (cited 𝓤 H (Inner 𝓤 H (𝓖 .A) (𝓜 .mem) (𝓡 .run)) 𝓜 𝓡 code.env #guard·row·tell inner-def.routine code.calls-guard·row·tell (inner-thm.met 𝓤 H 𝓜 𝓖 𝓡))
-    (cited 𝓤 H (Flat 𝓤 H (𝓖 .A) (𝓜 .mem) (𝓡 .run)) 𝓜 𝓡 code.env #floelinnet·row·told flat-def.routine code.calls-floelinnet·row·told (flat-thm.met 𝓤 H 𝓜 𝓖 𝓡)))
+    (cited 𝓤 H (Flat 𝓤 H (𝓖 .A) (𝓜 .mem) (𝓡 .run)) 𝓜 𝓡 code.env #floelinnet·flat·told flat-def.routine code.calls-floelinnet·flat·told (flat-thm.met 𝓤 H 𝓜 𝓖 𝓡)))

@@ -1,9 +1,9 @@
--- `floelinnet::row::asked`: each case of the answer is flattened as the definition says. Assumes nothing.
+-- `floelinnet::flat::asked`: each case of the answer is flattened as the definition says. Assumes nothing.
 use mathlib.Core.Path.{sym, ap}
 use borrow.Author.Needs.{needs}
-use Rattle.floelinnet.specs.Flat.{flatRowAsked}
-use Rattle.floelinnet.proofs.row.asked.Statement.{statement}
-use Rattle.floelinnet.proofs.row.asked.Tie as tie
+use Rattle.floelinnet.specs.Flat.{flatAsk}
+use Rattle.floelinnet.proofs.flat.asked.Statement.{statement}
+use Rattle.floelinnet.proofs.flat.asked.Tie as tie
 
 enum-told : tie.Need-enum-told
 enum-told c = search needs
@@ -21,16 +21,16 @@ cast-t5 : tie.Need-cast-t5
 cast-t5 c = search needs
 
 returns : tie.Need-returns
-returns c = sym (ap flatRowAsked (c .enum-told .given .1))
+returns c = sym (ap flatAsk (c .enum-told .given .1))
 
 returns-2 : tie.Need-returns-2
-returns-2 c = sym (ap flatRowAsked (c .enum-told2 .given .1))
+returns-2 c = sym (ap flatAsk (c .enum-told2 .given .1))
 
 returns-3 : tie.Need-returns-3
-returns-3 c = sym (ap flatRowAsked (c .enum-told3 .given .1))
+returns-3 c = sym (ap flatAsk (c .enum-told3 .given .1))
 
 returns-4 : tie.Need-returns-4
-returns-4 c = sym (ap flatRowAsked (c .before .answer .given .1))
+returns-4 c = sym (ap flatAsk (c .before .answer .given .1))
 
 pub asked-spec : {M : Type 1} → statement M
 asked-spec =
