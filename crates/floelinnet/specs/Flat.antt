@@ -14,7 +14,6 @@ use Rattle.builder.specs.declared.BuildAnswer.{BuildAnswer}
 use Rattle.builder.specs.declared.BuildAnswer.the-variants as built
 use Rattle.table.specs.declared.TableAnswer.{TableAnswer}
 use Rattle.table.specs.declared.TableAnswer.the-variants as checked
-use Rattle.guard.specs.declared.Guard.{Guard}
 use Rattle.guard.specs.declared.StartAnswer.{StartAnswer}
 use Rattle.guard.specs.declared.StartAnswer.the-variants as start
 use Rattle.guard.specs.declared.Started.{Started}

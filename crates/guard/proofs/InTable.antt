@@ -16,7 +16,6 @@ use Rattle.table.proofs.Shared.{first-here, first-skip}
 use Rattle.table.proofs.Turns.{passed-before}
 use Rattle.table.proofs.Checked.{checked-looks, checked-well-made}
 use Rattle.guard.specs.declared.Guard.{Guard}
-use Rattle.guard.specs.declared.Told.{Told}
 use Rattle.guard.specs.declared.TellAnswer.the-variants as tell
 use Rattle.guard.specs.Guard.{fresh, answerTo, askedWhen, askedOf, moved, after, tellRows, toldWhen, toldOf}
 use Rattle.guard.specs.Told.{afterAll, toldAll, heard, ByWalk}
