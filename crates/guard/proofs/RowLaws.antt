@@ -1,10 +1,9 @@
 -- Starting or telling one job changes its guard only, so what another job hears stays the same; and a refused call leaves the whole row. Assumes nothing.
 use mathlib.Core.Path.{_≡_, refl, sym, ap₂, _∙_}
-use mathlib.Core.Bool.{Bool, _||_}
+use mathlib.Core.Bool.{Bool}
 use mathlib.Core.List.{List, _∷_}
 use Prim.Native.Nat.{ℕ}
 use native.Mathlib.Omega.{arith}
-use lib.Dec.{leb, ltb}
 use lib.ListN.{length, set, length-set}
 use lib.Seq.{getD-set-other}
 use Rattle.table.specs.Shared.{Row, row, Tested, passed, refused, first, outcome, Machine}
@@ -16,7 +15,7 @@ use Rattle.guard.specs.declared.StartAnswer.the-variants as start
 use Rattle.guard.specs.declared.TellAnswer.{TellAnswer}
 use Rattle.guard.specs.declared.TellAnswer.the-variants as tell
 use Rattle.guard.specs.Guard.{fresh, askedWhen, after, tellRows, toldWhen}
-use Rattle.guard.specs.Row.{mostGuards, guardAt, ChangesOnly, rowStartRows, rowStartedWhen, rowStartedOf, rowAskRows, rowAskedWhen, rowAskedOf, rowTellRows, rowToldWhen, rowToldOf}
+use Rattle.guard.specs.Row.{guardAt, outside, ChangesOnly, rowStartRows, rowStartedWhen, rowStartedOf, rowAskRows, rowAskedWhen, rowAskedOf, rowTellRows, rowToldWhen, rowToldOf}
 
 unchanged : (r : List Guard) (job : ℕ) → ChangesOnly job r r
 unchanged r job = record { count = refl; others = λ other d. refl }
@@ -56,7 +55,7 @@ module _ (r : List Guard) (job : ℕ) (b : List ℕ) where
 -- what a job hears depends on the count and on its own guard only
 module _ (b : List ℕ) (other : ℕ) where
   abbrev rows : ℕ → List Row → List Row
-  rows count own = row 14 (leb count other || ltb mostGuards count) 0 ∷ own
+  rows count own = row 14 (outside count other) 0 ∷ own
 
   abbrev hears : ℕ → Guard → AskAnswer
   hears count g = askedWhen (first (rows count (lookRows b (g .state)))) (machineOf b) g .answer

@@ -5,19 +5,19 @@
 mod answers;
 mod fields;
 mod guards;
+mod limits;
 mod memory;
-mod patterns;
 mod tables;
 mod text;
 
-// The answer to a vector on sets and patterns, and whether there was such a command.
-fn answer_patterns(line: &[u8], command: u8) -> bool {
+// The answer to a vector on sets of limits and patterns, and whether there was such a command.
+fn answer_limits(line: &[u8], command: u8) -> bool {
     if command == b'r' {
-        patterns::try_read(line);
+        limits::try_read(line);
         return true;
     }
     if command == b'w' {
-        patterns::try_write(line);
+        limits::try_write(line);
         return true;
     }
     if command == b'm' {
@@ -25,11 +25,11 @@ fn answer_patterns(line: &[u8], command: u8) -> bool {
         return true;
     }
     if command == b'j' {
-        patterns::try_judge(line);
+        limits::try_judge(line);
         return true;
     }
     if command == b'c' {
-        patterns::try_compare(line);
+        limits::try_compare(line);
         return true;
     }
     false
@@ -37,7 +37,7 @@ fn answer_patterns(line: &[u8], command: u8) -> bool {
 
 fn answer(line: &[u8], command: u8) {
     text::print(b" = ");
-    if answer_patterns(line, command) {
+    if answer_limits(line, command) {
         return;
     }
     if command == b't' {
