@@ -25,7 +25,7 @@ same a b (Refused w n v) Covers p q e f g = absurd (both-not-one (sym e))
 same a b (Refused w n v) Between p q e f g = absurd (both-not-one (sym e))
 same a b (Refused w n v) (Refused w′ n′ v′) p q e f g = (cc, f ∙ sym g)
 
-pub compare-one-result : (longest : ℕ) (a b : List ℕ) (r t : Compared) → ComparedAs longest a b r → ComparedAs longest a b t → r ≡ t
-compare-one-result longest a b r t c d =
+pub compare-one-result : (widest : ℕ) (a b : List ℕ) (r t : Compared) → ComparedAs widest a b r → ComparedAs widest a b t → r ≡ t
+compare-one-result widest a b r t c d =
     let (e, f) = same _ _ (r .answer) (t .answer) (r .pattern) (t .pattern) (c .refusal ∙ sym (d .refusal)) (c .answer) (d .answer) in
     ap₂ {C = Compared} (λ x y. record { answer = x; pattern = y }) e f

@@ -40,8 +40,8 @@ Answers a b Covers p = covers.Covers a b × (p ≡ packed [])
 Answers a b Between p = (q : List Bool) × covers.FirstBetween a b q × (p ≡ packed q)
 Answers a b (Refused which number at) p = p ≡ packed []
 
-pub record ComparedAs (longest : ℕ) (first-set second-set : List ℕ) (r : Compared) : Type 0 where
-  pub refusal : says (r .answer) ≡ in-turn (first (setRows longest first-set)) (first (setRows longest second-set))
+pub record ComparedAs (widest : ℕ) (first-set second-set : List ℕ) (r : Compared) : Type 0 where
+  pub refusal : says (r .answer) ≡ in-turn (first (setRows widest first-set)) (first (setRows widest second-set))
   pub answer : Answers (setOf first-set) (setOf second-set) (r .answer) (r .pattern)
 
 -- the same of two sets that have been read

@@ -1,8 +1,8 @@
--- How the first row that holds is found: a row that holds is the answer, a row that doesn't hands on to the next. Assumes nothing.
-use mathlib.Core.Path.{_≡_, refl, sym, ap, _∙_}
+-- How the first row that holds is found: a row that holds is the answer, a row that doesn't hands on to the next; and which numbers a table of rows can give. Assumes nothing.
+use mathlib.Core.Path.{_≡_, refl, sym, ap, _∙_, subst}
 use mathlib.Core.Bool.{Bool, true, false, cond, _||_, true≢false}
 use mathlib.Core.List.{List, [], _∷_, _++_}
-use Prim.Native.Nat.{ℕ}
+use Prim.Native.Nat.{ℕ, _≤_}
 use native.Mathlib.Omega.{arith}
 use Rattle.layout.specs.Refusal.{Row, row, Tested, passed, refused, first}
 
@@ -52,3 +52,29 @@ both-passed a b e = go (first a) refl (sym (first-append a b) ∙ e)
 pub or-none : (a b : Bool) → (a || b) ≡ false → (a ≡ false) × (b ≡ false)
 or-none true b e = absurd (true≢false e)
 or-none false b e = (refl, e)
+
+-- the number of every row is one of P
+abbrev pub Numbers : (ℕ → Type 0) → List Row → Type 0
+Numbers P [] = Unit {0}
+Numbers P (r ∷ rows) = P (r .number) × Numbers P rows
+
+abbrev pub from-to : (low high n : ℕ) → Type 0
+from-to low high n = (low ≤ n) × (n ≤ high)
+
+-- the first row that holds is one of the rows
+pub first-number : (P : ℕ → Type 0) (rows : List Row) (n v : ℕ) → Numbers P rows → first rows ≡ refused n v → P n
+unfolding first
+first-number P [] n v f e = absurd (passed-not-refused e)
+first-number P (r ∷ rows) n v (p, f) e = go (r .holds) e (first-number P rows n v f)
+  where
+    go : (b : Bool) → cond b (refused (r .number) (r .at)) (first rows) ≡ refused n v → (first rows ≡ refused n v → P n) → P n
+    go true q ih = let z : r .number ≡ n = cc in subst P z p
+    go false q ih = ih q
+
+pub numbers-append : (P : ℕ → Type 0) (a b : List Row) → Numbers P a → Numbers P b → Numbers P (a ++ b)
+numbers-append P [] b f g = g
+numbers-append P (r ∷ a) b (p, f) g = (p, numbers-append P a b f g)
+
+pub numbers-among : (P Q : ℕ → Type 0) → ((n : ℕ) → P n → Q n) → (rows : List Row) → Numbers P rows → Numbers Q rows
+numbers-among P Q t [] f = tt
+numbers-among P Q t (r ∷ rows) (p, f) = (t (r .number) p, numbers-among P Q t rows f)

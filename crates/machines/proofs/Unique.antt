@@ -102,7 +102,6 @@ pub canonical-unique : (m n : Machine) (L L′ : List Bool → Type 0) → Canon
     → ((p : List Bool) → L p ↔ L′ p) → OneTable m n
 canonical-unique m n L L′ cm c e = record {
   states = omega (arith, states-le L m n cm cn, states-le L n m cn cm);
-  start = cm .starts-at-0 ∙ sym (c .starts-at-0);
   moves = moves-alike L m n cm cn;
 }
   where

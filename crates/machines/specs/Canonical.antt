@@ -23,8 +23,7 @@ pub record Canonical (m : Machine) (language : List Bool → Type 0) : Type 0 wh
   pub in-order : (s t : ℕ) (p q : List Bool) → s < t → t < m .states → FirstTo m s p → FirstTo m t q → NoLater p q
   pub differ : (a b : ℕ) → a < m .states → b < m .states → Same m a b → a ≡ b
 
--- two machines with one table: the same states, start and moves
+-- two machines with one table: the same states and moves
 pub record OneTable (m n : Machine) : Type 0 where
   pub states : m .states ≡ n .states
-  pub start : m .start ≡ n .start
   pub moves : (s : ℕ) (o : Bool) → s < m .states → m .next s o ≡ n .next s o

@@ -1,8 +1,9 @@
--- The laws of kept, said of a whole set: empty, hits, parts. Each follows from the same law of one limit. Assumes nothing.
+-- The laws of kept, said of a whole set: two-way endless sequences, empty, hits, parts. Each follows from the same law of one limit. Assumes nothing.
 use mathlib.Core.Path.{_≡_, refl, sym, ap, _∙_, subst}
+use mathlib.Core.Logic.{_↔_}
 use mathlib.Core.Bool.{Bool, true, false, true≢false}
 use mathlib.Core.List.{List, [], _∷_, _++_}
-use Prim.Native.Nat.{ℕ, zero, suc}
+use Prim.Native.Nat.{ℕ, zero, suc, _<_}
 use native.Mathlib.Omega.{arith}
 use lib.ListN.{take, drop, replicate, take-append-drop}
 use lib.IntN.{ℤ, pos, negsuc, sucℤ, _+ℤ_, +ℤ-idl, +ℤ-sucℤ, sucℤ-+ℤ}
@@ -10,10 +11,10 @@ use Rattle.meaning.specs.declared.LimitSet.{LimitSet}
 use Rattle.meaning.specs.Limit.{Rule, AnyHit, RowHit, AnyMiss, RowMiss, RuleAllowed, width}
 use Rattle.meaning.specs.Window.{around, window}
 use Rattle.meaning.specs.Holds.{Holds, misses}
-use Rattle.meaning.specs.Kept.{Kept}
+use Rattle.meaning.specs.Kept.{Always, Kept, Occurs}
 use Rattle.meaning.specs.Sets.{SetAllowed, KeptBy, ruleAt}
 use Rattle.meaning.proofs.Monotone.{Up}
-use Rattle.meaning.proofs.TwoWay.{kept-of, kept-part, kept-hit}
+use Rattle.meaning.proofs.TwoWay.{kept-of, kept-occurs, occurs-around, kept-part, kept-hit}
 use Rattle.meaning.proofs.MissMore.{hits-replicate, run-hits}
 
 pub window-empty : (i : ℤ) (k : ℕ) → window (around []) i k ≡ replicate k true
@@ -47,6 +48,13 @@ pub kept-hit-before : (l : Rule) (p : List Bool) → Kept l p → Kept l (true �
 kept-hit-before l p h = kept-of l (around p) (negsuc zero) (true ∷ p) (before-hit p) h
 
 module _ (s : LimitSet) where
+  -- "a pattern is kept exactly when it occurs in some two-way endless sequence whose windows all hold": one sequence for all limits
+  pub kept-by-occurs : (p : List Bool) → KeptBy s p ↔ ((q : ℤ → Bool) × Occurs p q × ((i : ℕ) → i < s .count → Always (ruleAt s i) q))
+  kept-by-occurs p = (
+    λ k. (around p, occurs-around p, k),
+    λ (q, at, h) i l. kept-occurs (ruleAt s i) p .1 (q, at, h i l),
+  )
+
   pub kept-by-empty : (w : ℕ) → SetAllowed w s → KeptBy s []
   kept-by-empty w a i h = kept-empty w (ruleAt s i) (a .each i h .rule-allowed)
 

@@ -42,10 +42,13 @@ occurs-up : (p : List Bool) (s : ℤ → Bool) (j : ℤ) → window s j (length 
 occurs-up p s j e (negsuc n) = λ t. refl
 occurs-up p s j e (pos n) = λ t. ap (λ z. getD z n true) (sym e) ∙ getD-window s j (length p) n t
 
+pub occurs-around : (p : List Bool) → Occurs p (around p)
+occurs-around p = (pos zero, window-drop p (length p) zero (omega arith))
+
 -- (2)
 pub kept-occurs : (l : Rule) (p : List Bool) → Kept l p ↔ ((s : ℤ → Bool) × Occurs p s × Always l s)
 kept-occurs l p = (
-  λ h. (around p, (pos zero, window-drop p (length p) zero (omega arith)), h),
+  λ h. (around p, occurs-around p, h),
   λ (s, (j, e), h). kept-of l s j p (occurs-up p s j e) h,
 )
 

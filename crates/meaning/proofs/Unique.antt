@@ -1,11 +1,13 @@
--- A pattern is lost at one job and one limit, kept and lost exclude each other, and two sets have at most one first pattern between them. Assumes nothing.
-use mathlib.Core.Path.{_≡_, sym, subst}
+-- A pattern is lost at one job of its own and by one limit of the set, kept and lost exclude each other, and two sets have at most one first pattern between them. Assumes nothing.
+use mathlib.Core.Path.{_≡_, sym, _∙_, subst}
 use mathlib.Core.Logic.{dite}
 use mathlib.Core.Bool.{Bool}
 use mathlib.Core.List.{List}
-use Prim.Native.Nat.{ℕ, _≤_}
+use Prim.Native.Nat.{ℕ, _-_, _≤_, _<_}
 use native.Mathlib.Decide.{decLt}
 use native.Mathlib.Omega.{arith}
+use lib.ListN.{length}
+use lib.Seq.{take-all}
 use Rattle.patterns.proofs.Codes.{no-later-antisym}
 use Rattle.meaning.specs.declared.LimitSet.{LimitSet}
 use Rattle.meaning.specs.Sets.{KeptBy, LostAt}
@@ -15,6 +17,17 @@ use Rattle.meaning.proofs.SetLaws.{kept-by-take}
 module _ (s : LimitSet) (p : List Bool) where
   pub kept-not-lost : (j i : ℕ) → KeptBy s p → LostAt s p j i → ⊥
   kept-not-lost j i k l = l .lost (kept-by-take s j p k)
+
+  -- the job is one of the pattern: a beginning as long as the pattern is all of it
+  pub lost-within : (j i : ℕ) → LostAt s p j i → j ≤ length p
+  lost-within j i l =
+      dite (decLt (length p) j) (λ h.
+      absurd (l .lost (subst (λ z. KeptBy s z) (take-all (j - 1) p (omega arith) ∙ sym (take-all j p (omega arith))) (l .shortest (j - 1) (omega arith)))))
+      (λ h. omega arith)
+
+  -- and the limit one of the set
+  pub lost-of-the-set : (j i : ℕ) → LostAt s p j i → i < s .count
+  lost-of-the-set j i l = dite (decLt i (s .count)) (λ h. h) (λ h. absurd (l .lost (λ n g. l .lowest n (omega arith))))
 
   lost-le : (j i j′ i′ : ℕ) → LostAt s p j i → LostAt s p j′ i′ → j′ ≤ j
   lost-le j i j′ i′ l l′ = dite (decLt j j′) (λ h. absurd (l .lost (l′ .shortest j h))) (λ h. omega arith)

@@ -36,8 +36,8 @@ everyPattern (suc n) f = everyPattern n (λ q. f (false ∷ q)) && everyPattern 
 
 abbrev lostTest : LimitSet → List Bool → ℕ → ℕ → Bool
 lostTest s p j i =
-    leb j (length p) && (every j (λ n. keptByTest s (take n p))
-    && (ltb i (s .count) && (not (keptTest (ruleAt s i) (take j p)) && every i (λ n. keptTest (ruleAt s n) (take j p)))))
+    every j (λ n. keptByTest s (take n p))
+    && (ltb i (s .count) && (not (keptTest (ruleAt s i) (take j p)) && every i (λ n. keptTest (ruleAt s n) (take j p))))
 
 abbrev betweenTest : LimitSet → LimitSet → List Bool → Bool
 betweenTest a b p = keptByTest a p && not (keptByTest b p)
@@ -62,16 +62,13 @@ not-kept s p t k = T-not (keptByTest s p) t (kept-by-iff s p .1 k)
 
 lost-holds : (s : LimitSet) (p : List Bool) (j i : ℕ) → T (lostTest s p j i) → LostAt s p j i
 lost-holds s p j i t =
-    let (within, t₁) = and-T (leb j (length p)) _ .0 t in
-    let (short, t₂) = and-T (every j (λ n. keptByTest s (take n p))) _ .0 t₁ in
+    let (short, t₂) = and-T (every j (λ n. keptByTest s (take n p))) _ .0 t in
     let (low, t₃) = and-T (ltb i (s .count)) _ .0 t₂ in
     let (bad, before) = and-T (not (keptTest (ruleAt s i) (take j p))) _ .0 t₃ in
     let l = ltb→lt i (s .count) low in
     record {
-      within = leb→le j (length p) within;
       lost = λ k. T-not (keptTest (ruleAt s i) (take j p)) bad (kept-iff (ruleAt s i) (take j p) .1 (k i l));
       shortest = λ n h. kept-by-iff s (take n p) .0 (every-at j (λ n. keptByTest s (take n p)) short n h);
-      of-the-set = l;
       breaks = λ k. T-not (keptTest (ruleAt s i) (take j p)) bad (kept-iff (ruleAt s i) (take j p) .1 k);
       lowest = λ n h. kept-iff (ruleAt s n) (take j p) .0 (every-at i (λ n. keptTest (ruleAt s n) (take j p)) before n h);
     }

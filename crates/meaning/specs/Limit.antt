@@ -24,14 +24,14 @@ width (RowHit x k) = k
 width (AnyMiss x k) = k
 width (RowMiss x) = suc x
 
--- the column "allowed numbers", with the longest window for its 12 and one less for its 11
-abbrev pub RuleAllowed : (longest : ℕ) → Rule → Type 0
-RuleAllowed longest (AnyHit x k) = (1 ≤ k) × (k ≤ longest) × (x ≤ k)
-RuleAllowed longest (RowHit x k) = (1 ≤ k) × (k ≤ longest) × (x ≤ k)
-RuleAllowed longest (AnyMiss x k) = (1 ≤ k) × (k ≤ longest) × (x ≤ k)
-RuleAllowed longest (RowMiss x) = suc x ≤ longest
+-- the column "allowed numbers", with the widest window for its 12 and one less for its 11
+abbrev pub RuleAllowed : (widest : ℕ) → Rule → Type 0
+RuleAllowed widest (AnyHit x k) = (1 ≤ k) × (k ≤ widest) × (x ≤ k)
+RuleAllowed widest (RowHit x k) = (1 ≤ k) × (k ≤ widest) × (x ≤ k)
+RuleAllowed widest (AnyMiss x k) = (1 ≤ k) × (k ≤ widest) × (x ≤ k)
+RuleAllowed widest (RowMiss x) = suc x ≤ widest
 
-pub record Allowed (longest : ℕ) (l : Limit) : Type 0 where
+pub record Allowed (widest : ℕ) (l : Limit) : Type 0 where
   pub kind-known : l .kind ≤ 3
-  pub rule-allowed : RuleAllowed longest (ruleOf l)
+  pub rule-allowed : RuleAllowed widest (ruleOf l)
   pub k-unused : l .kind ≡ 3 → l .k ≡ 0

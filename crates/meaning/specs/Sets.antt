@@ -2,7 +2,7 @@
 use mathlib.Core.Bool.{Bool, false}
 use mathlib.Core.List.{List, [], _∷_, _++_}
 use Prim.Native.Nat.{ℕ, _≤_, _<_}
-use lib.ListN.{length, getD, take}
+use lib.ListN.{getD, take}
 use Rattle.meaning.specs.declared.Limit.{Limit}
 use Rattle.meaning.specs.declared.LimitSet.{LimitSet}
 use Rattle.meaning.specs.Limit.{Rule, ruleOf, Allowed}
@@ -19,10 +19,10 @@ abbrev pub ruleAt : LimitSet → ℕ → Rule
 ruleAt s i = ruleOf (limitAt s i)
 
 -- the set's limits have allowed numbers
-pub record SetAllowed (longest : ℕ) (s : LimitSet) : Type 0 where
+pub record SetAllowed (widest : ℕ) (s : LimitSet) : Type 0 where
   pub some-limit : 1 ≤ s .count
   pub eight-places : s .count ≤ 8
-  pub each : (i : ℕ) → i < s .count → Allowed longest (limitAt s i)
+  pub each : (i : ℕ) → i < s .count → Allowed widest (limitAt s i)
 
 -- "It is kept under a set when each window of each limit holds"
 abbrev pub KeptBy : LimitSet → List Bool → Type 0
@@ -30,10 +30,8 @@ KeptBy s p = (i : ℕ) → i < s .count → Kept (ruleAt s i) p
 
 -- "Lost at job j. The pattern isn't kept, and j (from 1) is the length of its shortest beginning that isn't kept. Report j and the lowest-numbered limit (from 0) that doesn't keep that beginning."
 pub record LostAt (s : LimitSet) (p : List Bool) (j i : ℕ) : Type 0 where
-  pub within : j ≤ length p
   pub lost : KeptBy s (take j p) → ⊥
   pub shortest : (n : ℕ) → n < j → KeptBy s (take n p)
-  pub of-the-set : i < s .count
   pub breaks : Kept (ruleAt s i) (take j p) → ⊥
   pub lowest : (n : ℕ) → n < i → Kept (ruleAt s n) (take j p)
 

@@ -1,17 +1,20 @@
--- The test for 13, place by place: a byte that is 0 or 1 hands on to the next, any other is the answer. Assumes nothing.
+-- The test for 13, place by place: a byte that is 0 or 1 hands on to the next, any other is the answer; and one place is told by what it says of a pattern. Assumes nothing.
 use mathlib.Core.Path.{_≡_, sym, ap, _∙_}
+use mathlib.Core.Logic.{dite}
 use mathlib.Core.Bool.{Bool, false}
 use mathlib.Core.List.{List, [], _∷_, _++_}
 use Prim.Native.Nat.{ℕ, _+_, _≤_, _<_}
 use native.Mathlib.Numerals.{add-one}
+use native.Mathlib.Decide.{decLt}
 use native.Mathlib.Omega.{arith}
 use borrow.Author.Tests.{lt-ltb, le-ltb}
 use lib.Dec.{ltb}
 use lib.ListN.{length, getD, take, drop, drop-of-length-le, length-map, List·getD-map}
 use lib.Seq.{drop-cons, take-suc}
 use Rattle.layout.specs.Refusal.{passed, refused, first}
-use Rattle.layout.proofs.Rows.{first-here, first-skip}
+use Rattle.layout.proofs.Rows.{first-here, first-skip, passed-not-refused}
 use Rattle.patterns.specs.Outcome.{outcome, outcomes, outcomeRows}
+use Rattle.patterns.specs.Tested.{badPlace}
 
 module _ (b : List ℕ) (i : ℕ) where
   pub outcome-good : i < length b → getD b i 0 ≤ 1 → first (outcomeRows (drop i b) i) ≡ first (outcomeRows (drop (i + 1) b) (i + 1))
@@ -30,6 +33,22 @@ module _ (b : List ℕ) (i : ℕ) where
   pub outcome-end : length b ≤ i → first (outcomeRows (drop i b) i) ≡ passed
   unfolding outcomeRows first
   outcome-end h = ap (λ z. first (outcomeRows z i)) (drop-of-length-le b {i = i} h)
+
+-- two places that say the same of a pattern, neither past its end, are one
+pub bad-place-one-result : (n r t : ℕ) → r ≤ n → t ≤ n → badPlace r n ≡ badPlace t n → r ≡ t
+bad-place-one-result n r t h l e = dite (decLt r n) (λ a. dite (decLt t n) (both a) (λ b. absurd (one a b e))) (λ a. dite (decLt t n) (λ b. absurd (one b a (sym e))) (λ b. omega arith))
+  where
+    here : (i : ℕ) → i < n → badPlace i n ≡ refused 13 i
+    here i h = rw (lt-ltb i n h)
+
+    past : (i : ℕ) → (i < n → ⊥) → badPlace i n ≡ passed
+    past i h = rw (le-ltb i n (omega arith))
+
+    both : r < n → t < n → r ≡ t
+    both a b = cc (here r a, here t b)
+
+    one : {i j : ℕ} → i < n → (j < n → ⊥) → badPlace i n ≡ badPlace j n → ⊥
+    one {i} {j} a b q = passed-not-refused (sym (past j b) ∙ sym q ∙ here i a)
 
 -- the outcomes of one byte more
 pub outcomes-more : (b : List ℕ) (i : ℕ) → i < length b → take (i + 1) (outcomes b) ≡ take i (outcomes b) ++ outcome (getD b i 0) ∷ []

@@ -20,9 +20,9 @@ abbrev pub setWhen : Tested → List ℕ → LimitSet
 setWhen passed b = setOf b
 setWhen (refused n v) b = emptySet
 
-pub record ReadAs (longest : ℕ) (b : List ℕ) (r : SetRead) : Type 0 where
-  pub answer : says (r .answer) ≡ first (setRows longest b)
-  pub set : r .set ≡ setWhen (first (setRows longest b)) b
+pub record ReadAs (widest : ℕ) (b : List ℕ) (r : SetRead) : Type 0 where
+  pub answer : says (r .answer) ≡ first (setRows widest b)
+  pub set : r .set ≡ setWhen (first (setRows widest b)) b
 
 abbrev pub refusedRead : ℕ → ℕ → SetRead
 refusedRead number at = record { answer = Refused number at; set = emptySet }

@@ -11,22 +11,22 @@ use Rattle.meaning.specs.declared.LimitSet.{LimitSet}
 use Rattle.meaning.specs.Sets.{limitAt}
 use Rattle.sets.specs.Bytes.{countOf, setOf}
 
--- "k outside its range (for kind 3: not 0)": "k 1 to 12", with the longest window for 12
-abbrev pub kOutside : (longest : ℕ) → Limit → Bool
-kOutside longest l = cond (eqb (l .kind) 3) (not (eqb (l .k) 0)) (eqb (l .k) 0 || ltb longest (l .k))
+-- "k outside its range (for kind 3: not 0)": "k 1 to 12", with the widest window for 12
+abbrev pub kOutside : (widest : ℕ) → Limit → Bool
+kOutside widest l = cond (eqb (l .kind) 3) (not (eqb (l .k) 0)) (eqb (l .k) 0 || ltb widest (l .k))
 
--- "x outside its range": "x 0 to k", and for kind 3 "x 0 to 11", one less than the longest window
-abbrev pub xOutside : (longest : ℕ) → Limit → Bool
-xOutside longest l = cond (eqb (l .kind) 3) (leb longest (l .x)) (ltb (l .k) (l .x))
+-- "x outside its range": "x 0 to k", and for kind 3 "x 0 to 11", one less than the widest window
+abbrev pub xOutside : (widest : ℕ) → Limit → Bool
+xOutside widest l = cond (eqb (l .kind) 3) (leb widest (l .x)) (ltb (l .k) (l .x))
 
 -- limit number i
-abbrev pub limitRows : (longest : ℕ) → Limit → (i : ℕ) → List Row
-limitRows longest l i = row 5 (ltb 3 (l .kind)) i ∷ row 6 (kOutside longest l) i ∷ row 7 (xOutside longest l) i ∷ []
+abbrev pub limitRows : (widest : ℕ) → Limit → (i : ℕ) → List Row
+limitRows widest l i = row 5 (ltb 3 (l .kind)) i ∷ row 6 (kOutside widest l) i ∷ row 7 (xOutside widest l) i ∷ []
 
 -- "Limits are tested first to last, each for 5, 6, 7": the n limits from limit i on
-unfoldable pub limitsRows : (longest : ℕ) → LimitSet → (i n : ℕ) → List Row
-limitsRows longest s i zero = []
-limitsRows longest s i (suc n) = limitRows longest (limitAt s i) i ++ limitsRows longest s (suc i) n
+unfoldable pub limitsRows : (widest : ℕ) → LimitSet → (i n : ℕ) → List Row
+limitsRows widest s i zero = []
+limitsRows widest s i (suc n) = limitRows widest (limitAt s i) i ++ limitsRows widest s (suc i) n
 
 -- "c is 0 or above 8"
 abbrev pub countRow : ℕ → Row
@@ -41,12 +41,12 @@ headRows b =
     ∷ []
 
 -- the bytes of a set
-abbrev pub setRows : (longest : ℕ) → List ℕ → List Row
-setRows longest b = headRows b ++ limitsRows longest (setOf b) 0 (countOf b)
+abbrev pub setRows : (widest : ℕ) → List ℕ → List Row
+setRows widest b = headRows b ++ limitsRows widest (setOf b) 0 (countOf b)
 
 -- a set that is in memory already
-abbrev pub memoryRows : (longest : ℕ) → LimitSet → List Row
-memoryRows longest s = countRow (s .count) ∷ limitsRows longest s 0 (s .count)
+abbrev pub memoryRows : (widest : ℕ) → LimitSet → List Row
+memoryRows widest s = countRow (s .count) ∷ limitsRows widest s 0 (s .count)
 
 -- what a number, 0 for none, says of limit i
 abbrev pub faultRow : ℕ → ℕ → Tested

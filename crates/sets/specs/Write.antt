@@ -14,8 +14,8 @@ use Rattle.sets.specs.Rows.{memoryRows}
 abbrev pub sizeOf : LimitSet → ℕ
 sizeOf s = 6 + 3 * s .count
 
-abbrev pub writeRows : (longest : ℕ) → LimitSet → List ℕ → List Row
-writeRows longest s out = memoryRows longest s ++ row 9 (ltb (length out) (sizeOf s)) (sizeOf s) ∷ []
+abbrev pub writeRows : (widest : ℕ) → LimitSet → List ℕ → List Row
+writeRows widest s out = memoryRows widest s ++ row 9 (ltb (length out) (sizeOf s)) (sizeOf s) ∷ []
 
 -- the number of each answer with what else is returned, and the length written
 abbrev pub says : SetWritten → Tested
@@ -35,7 +35,7 @@ abbrev pub bufferWhen : Tested → LimitSet → List ℕ → List ℕ
 bufferWhen passed s out = bytesOf s ++ drop (sizeOf s) out
 bufferWhen (refused n v) s out = out
 
-pub record WrittenAs (longest : ℕ) (s : LimitSet) (out out′ : List ℕ) (r : SetWritten) : Type 0 where
-  pub answer : says r ≡ first (writeRows longest s out)
-  pub length-written : lengthOf r ≡ lengthWhen (first (writeRows longest s out)) s
-  pub buffer : out′ ≡ bufferWhen (first (writeRows longest s out)) s out
+pub record WrittenAs (widest : ℕ) (s : LimitSet) (out out′ : List ℕ) (r : SetWritten) : Type 0 where
+  pub answer : says r ≡ first (writeRows widest s out)
+  pub length-written : lengthOf r ≡ lengthWhen (first (writeRows widest s out)) s
+  pub buffer : out′ ≡ bufferWhen (first (writeRows widest s out)) s out

@@ -32,8 +32,8 @@ pub enum SetWritten {
 }
 
 // 0 for a limit with allowed numbers, else 5, 6 or 7.
-fn fault(limit: Limit, longest: u8) -> u8
-    ensures { λ r. ⌜ ((i : ℕ) → first (limitRows longest limit i) ≡ faultRow r i) ⌝ }
+fn fault(limit: Limit, widest: u8) -> u8
+    ensures { λ r. ⌜ ((i : ℕ) → first (limitRows widest limit i) ≡ faultRow r i) ⌝ }
 {
     let kind = limit.kind;
     let x = limit.x;
@@ -45,7 +45,7 @@ fn fault(limit: Limit, longest: u8) -> u8
         if k != 0 {
             return 6;
         }
-        if longest <= x {
+        if widest <= x {
             return 7;
         }
         return 0;
@@ -53,7 +53,7 @@ fn fault(limit: Limit, longest: u8) -> u8
     if k == 0 {
         return 6;
     }
-    if longest < k {
+    if widest < k {
         return 6;
     }
     if k < x {
@@ -63,15 +63,15 @@ fn fault(limit: Limit, longest: u8) -> u8
 }
 
 // Limits are tested first to last, each for 5, 6, 7.
-fn test_limits(set: LimitSet, longest: u8) -> SetAnswer
+fn test_limits(set: LimitSet, widest: u8) -> SetAnswer
     requires { ⌜ set .count ≤ 8 ⌝ }
-    ensures { λ r. ⌜ says r ≡ first (limitsRows longest set 0 (set .count)) ⌝ }
+    ensures { λ r. ⌜ says r ≡ first (limitsRows widest set 0 (set .count)) ⌝ }
 {
     let count = set.count;
     let mut i = 0;
     while i < count {
         let limit = set.limits[i];
-        let number = fault(limit, longest);
+        let number = fault(limit, widest);
         if number != 0 {
             return SetAnswer::Refused { number, at: i };
         }
@@ -149,16 +149,16 @@ fn refused(number: u8, at: usize) -> SetRead
     }
 }
 
-// Reads a set whose windows are at most `longest` jobs.
-pub fn read_set_within(bytes: &[u8], longest: u8) -> SetRead
-    ensures { λ r. ⌜ ReadAs longest (now (bytes .entry)) r ⌝ }
+// Reads a set whose windows are at most `widest` jobs.
+fn read_set_within(bytes: &[u8], widest: u8) -> SetRead
+    ensures { λ r. ⌜ ReadAs widest (now (bytes .entry)) r ⌝ }
 {
     let head = test_head(bytes);
     if let SetAnswer::Refused { number, at } = head {
         return refused(number, at);
     }
     let set = take_limits(bytes, layout::wide(bytes[5]));
-    let answer = test_limits(set, longest);
+    let answer = test_limits(set, widest);
     if let SetAnswer::Refused { number, at } = answer {
         return refused(number, at);
     }

@@ -17,8 +17,8 @@ use meaning::Limit;
 use meaning::LimitSet;
 
 // Tests 3, and then 5, 6, 7 of each limit.
-fn test_memory(set: LimitSet, longest: u8) -> SetAnswer
-    ensures { λ r. ⌜ says r ≡ first (memoryRows longest set) ⌝ }
+fn test_memory(set: LimitSet, widest: u8) -> SetAnswer
+    ensures { λ r. ⌜ says r ≡ first (memoryRows widest set) ⌝ }
 {
     let count = set.count;
     if count == 0 {
@@ -27,7 +27,7 @@ fn test_memory(set: LimitSet, longest: u8) -> SetAnswer
     if 8 < count {
         return SetAnswer::Refused { number: 3, at: 0 };
     }
-    test_limits(set, longest)
+    test_limits(set, widest)
 }
 
 // The length field, the version and the count.

@@ -90,7 +90,7 @@ module _ (m : Machine) where
             rw (ne-eqb _ _ g) (cc)
 
     pub machine-of-bytes : OneTable (machineOf b) m
-    machine-of-bytes = record { states = count-of-bytes; start = sym (w .starts-at-0); moves = moves }
+    machine-of-bytes = record { states = count-of-bytes; moves = moves }
       where
         moves : (s : ℕ) (o : Bool) → s < stateCount b → nextIn b s o ≡ m .next s o
         moves s true h = sym (hit-read s (omega arith))

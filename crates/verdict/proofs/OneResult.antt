@@ -21,5 +21,5 @@ same s p (Refused n v) Kept e w u = absurd (passed-not-refused (sym e))
 same s p (Refused n v) (Lost j i) e w u = absurd (passed-not-refused (sym e))
 same s p (Refused n v) (Refused n′ v′) e w u = cc
 
-pub judge-one-result : (longest : ℕ) (set pattern : List ℕ) (r t : Judgement) → JudgedAs longest set pattern r → JudgedAs longest set pattern t → r ≡ t
-judge-one-result longest set pattern r t a b = same _ _ r t (a .refusal ∙ sym (b .refusal)) (a .verdict) (b .verdict)
+pub judge-one-result : (widest : ℕ) (set pattern : List ℕ) (r t : Judgement) → JudgedAs widest set pattern r → JudgedAs widest set pattern t → r ≡ t
+judge-one-result widest set pattern r t a b = same _ _ r t (a .refusal ∙ sym (b .refusal)) (a .verdict) (b .verdict)

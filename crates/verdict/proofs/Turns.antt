@@ -60,10 +60,8 @@ module _ (s : LimitSet) (b : List ℕ) (i : ℕ) (l : i < length b) (k : KeptBy 
 
       pub lost-turn : n < s .count → LostAt s (outcomes b) (i + 1) n
       lost-turn lt = record {
-        within = omega (arith, length-map b outcome);
         lost = λ g. blocked n lt (blocks .here lt) (g n lt);
         shortest = λ j h. subst (λ z. KeptBy s z) (take-take j i (outcomes b) (omega arith)) (kept-by-take s j (soFar b i) k);
-        of-the-set = lt;
         breaks = blocked n lt (blocks .here lt);
         lowest = λ j h. decided j (omega arith) (T-of _ (blocks .before j h));
       }

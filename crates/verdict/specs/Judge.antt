@@ -12,8 +12,8 @@ use Rattle.sets.specs.Rows.{setRows}
 use Rattle.verdict.specs.declared.Judgement.{Judgement}
 use Rattle.verdict.specs.declared.Judgement.the-variants.{Kept, Lost, Refused}
 
-abbrev pub judgeRows : (longest : ℕ) → (set pattern : List ℕ) → List Row
-judgeRows longest set pattern = setRows longest set ++ outcomeRows pattern 0
+abbrev pub judgeRows : (widest : ℕ) → (set pattern : List ℕ) → List Row
+judgeRows widest set pattern = setRows widest set ++ outcomeRows pattern 0
 
 -- the number of each answer, and what else is returned
 abbrev pub says : Judgement → Tested
@@ -27,8 +27,8 @@ Verdict s p Kept = KeptBy s p
 Verdict s p (Lost job limit) = LostAt s p job limit
 Verdict s p (Refused number at) = Unit {0}
 
-pub record JudgedAs (longest : ℕ) (set pattern : List ℕ) (r : Judgement) : Type 0 where
-  pub refusal : says r ≡ first (judgeRows longest set pattern)
+pub record JudgedAs (widest : ℕ) (set pattern : List ℕ) (r : Judgement) : Type 0 where
+  pub refusal : says r ≡ first (judgeRows widest set pattern)
   pub verdict : Verdict (setOf set) (outcomes pattern) r
 
 -- the same of a set that has been read, and outcomes that have been tested

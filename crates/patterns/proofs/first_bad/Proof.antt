@@ -29,7 +29,7 @@ returns c =
     let l = c .before .before .before .loop in
     let b = c .before .before .before .before .args .pattern .now in
     let h = c .before .before .loop-test .taken in
-    l .inv .1 ∙ outcome-bad b (l .i) h (c .if1 .taken) ∙ sym (simp (lt-ltb (l .i) (length b) h))
+    (omega arith, l .inv .1 ∙ outcome-bad b (l .i) h (c .if1 .taken) ∙ sym (simp (lt-ltb (l .i) (length b) h)))
 
 add-i : tie.Need-add-i Inv-loop μ-loop
 add-i c = search needs
@@ -48,7 +48,7 @@ returns-2 c =
     let l = c .before .loop in
     let b = c .before .before .args .pattern .now in
     let h : length b ≤ l .i = omega arith in
-    l .inv .1 ∙ outcome-end b (l .i) h ∙ sym (simp (le-ltb (l .i) (length b) h))
+    (omega arith, l .inv .1 ∙ outcome-end b (l .i) h ∙ sym (simp (le-ltb (l .i) (length b) h)))
 
 pub first-bad-spec : {M : Type 1} → statement M
 first-bad-spec =

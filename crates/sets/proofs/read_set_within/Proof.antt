@@ -33,10 +33,10 @@ head : (c : tie.After-enum-told) → Head (bytes c)
 head c = passed-head (bytes c) (sym (at-limits c))
 
 -- with the limits tested, all rows
-tested : (c : tie.After-test-limits) → first (setRows (c .before .before .before .before .before .before .before .before .args .longest) (bytes (c .before .before .before .before))) ≡ says (c .test-limits .result)
+tested : (c : tie.After-test-limits) → first (setRows (c .before .before .before .before .before .before .before .before .args .widest) (bytes (c .before .before .before .before))) ≡ says (c .test-limits .result)
 tested c =
     let h = c .before .before .before .before in
-    let w = h .before .before .before .before .args .longest in
+    let w = h .before .before .before .before .args .widest in
     rows w (bytes h) _ _ (at-limits h) (c .test-limits .ensures ∙ ap (λ z. first (limitsRows w z 0 (z .count))) (c .before .take-limits .ensures))
 
 test-head-requires : tie.Need-test-head-requires
@@ -53,8 +53,8 @@ returns c =
     let h = c .before .before in
     let t = h .before .before in
     let s = t .before .before .args in
-    read-refused (s .longest) (s .bytes .now) _ _ (c .refused .result) (c .refused .ensures)
-    (rows (s .longest) (s .bytes .now) _ _ (sym (ap says (h .head .given .1)) ∙ t .test-head .ensures) refl)
+    read-refused (s .widest) (s .bytes .now) _ _ (c .refused .result) (c .refused .ensures)
+    (rows (s .widest) (s .bytes .now) _ _ (sym (ap says (h .head .given .1)) ∙ t .test-head .ensures) refl)
 
 enum-told : tie.Need-enum-told
 enum-told c = search needs
@@ -81,7 +81,7 @@ returns-2 : tie.Need-returns-2
 returns-2 c =
     let t = c .before .before .before .before in
     let h = t .before .before .before .before in
-    read-refused (h .before .before .before .before .args .longest) (bytes h) _ _ (c .refused2 .result) (c .refused2 .ensures)
+    read-refused (h .before .before .before .before .args .widest) (bytes h) _ _ (c .refused2 .result) (c .refused2 .ensures)
     (tested t ∙ ap says (c .before .before .answer .given .1))
 
 enum-told-2 : tie.Need-enum-told-2

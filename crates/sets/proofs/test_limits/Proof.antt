@@ -11,10 +11,10 @@ use Rattle.sets.proofs.test_limits.Statement.{statement}
 use Rattle.sets.proofs.test_limits.Tie as tie
 
 abbrev Inv-loop : tie.InvT-loop
-Inv-loop longest set count i₀ i = (i ≤ set .count) × (first (limitsRows longest set 0 (set .count)) ≡ first (limitsRows longest set i (set .count - i)))
+Inv-loop widest set count i₀ i = (i ≤ set .count) × (first (limitsRows widest set 0 (set .count)) ≡ first (limitsRows widest set i (set .count - i)))
 
 abbrev μ-loop : tie.MeasureT-loop
-μ-loop longest set count i₀ i = set .count - i
+μ-loop widest set count i₀ i = set .count - i
 
 loop-holds : tie.Need-loop-holds Inv-loop μ-loop
 loop-holds c = (omega arith, rw sub-zero)
@@ -33,7 +33,7 @@ returns c =
     let f = c .before .fault in
     let l = c .before .before .before .before in
     let s = l .before .args in
-    sym (l .loop .inv .1 ∙ limits-faulty (s .longest) (s .t1) (l .loop .i) (s .t1 .count) (f .result) (omega arith) (f .ensures (l .loop .i)) (c .if1 .taken))
+    sym (l .loop .inv .1 ∙ limits-faulty (s .widest) (s .t1) (l .loop .i) (s .t1 .count) (f .result) (omega arith) (f .ensures (l .loop .i)) (c .if1 .taken))
 
 add-i : tie.Need-add-i Inv-loop μ-loop
 add-i c = search needs
@@ -47,14 +47,14 @@ loop-again c =
     let l = c .before .before .before .before in
     let s = l .before .args in (
       omega arith,
-      l .loop .inv .1 ∙ limits-faultless (s .longest) (s .t1) (l .loop .i) (s .t1 .count) (f .result) (omega arith) (f .ensures (l .loop .i)) (c .if1 .left),
+      l .loop .inv .1 ∙ limits-faultless (s .widest) (s .t1) (l .loop .i) (s .t1 .count) (f .result) (omega arith) (f .ensures (l .loop .i)) (c .if1 .left),
     )
 
 returns-2 : tie.Need-returns-2 Inv-loop μ-loop
 returns-2 c =
     let l = c .before in
     let s = l .before .args in
-    sym (l .loop .inv .1 ∙ limits-end (s .longest) (s .t1) (l .loop .i) (s .t1 .count) (omega arith))
+    sym (l .loop .inv .1 ∙ limits-end (s .widest) (s .t1) (l .loop .i) (s .t1 .count) (omega arith))
 
 pub test-limits-spec : {M : Type 1} → statement M
 test-limits-spec =

@@ -46,7 +46,7 @@ returns-2 c =
     let s = r .before .before .before .args in
     record {
       refusal = sym (rows (s .set .now) (s .pattern .now) _ _ (accepted-rows longest (s .set .now) (r .read-set .result) (r .read-set .ensures) (t .enum-told .given .1))
-          (c .before .first-bad .ensures ∙ simp (lt-ltb _ _ (c .if1 .taken))));
+          (c .before .first-bad .ensures .1 ∙ simp (lt-ltb _ _ (c .if1 .taken))));
       verdict = tt;
     }
 
@@ -66,7 +66,7 @@ returns-3 c =
     let e = t .enum-told .given .1 in
     record {
       refusal = c .judge-outcomes .ensures .accepted
-          ∙ sym (rows b p _ _ (accepted-rows longest b (r .read-set .result) (r .read-set .ensures) e) (c .before .before .first-bad .ensures ∙ simp (le-ltb _ _ (c .before .if1 .left))));
+          ∙ sym (rows b p _ _ (accepted-rows longest b (r .read-set .result) (r .read-set .ensures) e) (c .before .before .first-bad .ensures .1 ∙ simp (le-ltb _ _ (c .before .if1 .left))));
       verdict = subst (λ z. Verdict z (outcomes p) (c .judge-outcomes .result)) (accepted-set longest b (r .read-set .result) (r .read-set .ensures) e) (c .judge-outcomes .ensures .verdict);
     }
 
