@@ -1,6 +1,6 @@
--- Writing a history's outcomes into places, the newest first: the places not yet written are 0, the others hold what is no longer in the history. Assumes nothing.
-use mathlib.Core.Path.{_≡_, sym, ap, ap₂, _∙_}
-use mathlib.Core.Bool.{Bool, false}
+-- Writing a history's outcomes into places, the newest first: the places not yet written are 0, the others hold what is no longer in the history. And a pattern is known from its places. Assumes nothing.
+use mathlib.Core.Path.{_≡_, refl, sym, ap, ap₂, _∙_}
+use mathlib.Core.Bool.{Bool, true, false}
 use mathlib.Core.List.{List, [], _∷_, _++_, append-nil, append-assoc, map, map-append}
 use Prim.Native.Nat.{ℕ, suc, _+_, _-_, _/_, _%_, _≤_, _<_}
 use native.Mathlib.Numerals.{add-one}
@@ -51,3 +51,22 @@ filled-end h n places rest l (t, e, f) =
     ∙ ap (λ z. map bit z ++ (0 ∷ replicate (16 - length p) 0)) (sym e)
     ∙ sym (append-assoc (map bit (outcomesOf n h)) (0 ∷ []) (replicate (16 - length p) 0))
     ∙ ap (λ z. z ++ replicate (16 - length p) 0) (sym (map-append bit (outcomesOf n h) (false ∷ []))))
+
+-- a pattern is known from how it is returned
+pub packed-injective : (p q : List Bool) → packed p ≡ packed q → p ≡ q
+packed-injective p q e = go p q _ _ (ap (λ z. z .length) e) (ap (λ z. z .outcomes) e)
+  where
+    one : (a b : Bool) → bit a ≡ bit b → a ≡ b
+    one true true f = refl
+    one true false f = absurd (omega arith)
+    one false true f = absurd (omega arith)
+    one false false f = refl
+
+    go : (p q : List Bool) (x y : List ℕ) → length p ≡ length q → map bit p ++ x ≡ map bit q ++ y → p ≡ q
+    go [] [] x y l f = refl
+    go [] (b ∷ q) x y l f = absurd (omega arith)
+    go (a ∷ p) [] x y l f = absurd (omega arith)
+    go (a ∷ p) (b ∷ q) x y l f =
+        let g : bit a ≡ bit b = cc in
+        let h : map bit p ++ x ≡ map bit q ++ y = cc in
+        ap₂ {C = List Bool} (λ c r. c ∷ r) (one a b g) (go p q x y (omega arith) h)

@@ -1,58 +1,78 @@
 -- Demand 3: "Two accepted sets, given room, yield the same table, byte for byte, exactly when they keep the same finite patterns; and no machine with fewer states walks exactly those patterns." Assumes nothing.
-use mathlib.Core.Path.{_≡_, sym, _∙_, subst}
+use mathlib.Core.Path.{_≡_, refl, sym, ap, _∙_, subst}
 use mathlib.Core.Logic.{_↔_, Iff·trans, Iff·symm}
 use mathlib.Core.Bool.{Bool}
-use mathlib.Core.List.{List}
+use mathlib.Core.List.{List, [], _∷_}
 use Prim.Native.Nat.{ℕ, _≤_}
 use native.Mathlib.Omega.{arith}
+use lib.ListN.{length, take}
 use Rattle.layout.specs.Refusal.{passed, first}
 use Rattle.machines.specs.Machine.{Machine, WellMade, Can, Walks}
 use Rattle.machines.proofs.Unique.{canonical-unique}
 use Rattle.machines.proofs.Fewest.{canonical-fewest}
-use Rattle.meaning.specs.Longest.{longest}
 use Rattle.meaning.specs.Sets.{KeptBy}
+use Rattle.meaning.specs.Longest.{longest}
 use Rattle.sets.specs.Bytes.{setOf}
 use Rattle.table.specs.Bytes.{machineOf, stateCount}
 use Rattle.table.specs.Rows.{tableRows, mostStates}
 use Rattle.table.proofs.Bytes.{bytes-of-one-table}
-use Rattle.builder.specs.declared.BuildAnswer.the-variants.{Built}
-use Rattle.builder.specs.Build.{BuiltAs}
-use Rattle.builder.proofs.BuiltTables.{built-allowed, built-canonical, bytes, built-bytes, built-checked, built-one-table, no-more-states}
-use Rattle.demands.proofs.Demand2.{table-walks-kept}
+use Rattle.builder.specs.declared.BuildAnswer.{BuildAnswer}
+use Rattle.builder.specs.Build.{lengthOf, BuiltAs}
+use Rattle.builder.proofs.BuiltTables.{no-more-states}
+use Rattle.demands.specs.TableOf.{TableOf, GivenRoom}
+use Rattle.demands.proofs.Tables.{canonical-machine, made-allowed, made-canonical, made-bytes, made-checked, made-one-table, made-walks-kept}
+use Rattle.demands.proofs.Room.{room-suffices}
 
-module _ (set work work′ table table′ : List ℕ) (size : ℕ) (built : BuiltAs longest set work work′ table table′ (Built size)) where
-  abbrev b : List ℕ
-  b = bytes set work work′ table table′ size built
+-- An accepted set that is given room yields a table: it is never refused.
+pub accepted-yields-table : (set work work′ table table′ : List ℕ) (r : BuildAnswer) → GivenRoom set work table → BuiltAs longest set work work′ table table′ r → TableOf set (take (lengthOf r) table′)
+accepted-yields-table set work work′ table table′ r given built =
+    let e = room-suffices set work work′ table table′ r given built in
+    record {
+      work = work;
+      work′ = work′;
+      table = table;
+      table′ = table′;
+      size = lengthOf r;
+      built = subst (λ z. BuiltAs longest set work work′ table table′ z) e built;
+      bytes = refl;
+    }
 
+-- Two such tables are the same, byte for byte, exactly when the sets keep the same patterns.
+module _ (set₁ set₂ b₁ b₂ : List ℕ) (t₁ : TableOf set₁ b₁) (t₂ : TableOf set₂ b₂) where
+  pub same-bytes-same-patterns : (b₁ ≡ b₂) ↔ ((p : List Bool) → KeptBy (setOf set₁) p ↔ KeptBy (setOf set₂) p)
+  same-bytes-same-patterns = (
+    λ e p. Iff·trans (Iff·symm (made-walks-kept set₁ b₁ t₁ p)) (Iff·trans (by e p) (made-walks-kept set₂ b₂ t₂ p)),
+    λ alike. made-bytes set₁ b₁ t₁
+        ∙ bytes-of-one-table (canonical-machine set₁ b₁ t₁) (canonical-machine set₂ b₂ t₂)
+        (canonical-unique (canonical-machine set₁ b₁ t₁) (canonical-machine set₂ b₂ t₂) (KeptBy (setOf set₁)) (KeptBy (setOf set₂))
+        (made-canonical set₁ b₁ t₁) (made-canonical set₂ b₂ t₂) alike)
+        ∙ sym (made-bytes set₂ b₂ t₂),
+  )
+    where
+      by : b₁ ≡ b₂ → (p : List Bool) → Can (machineOf b₁) 0 p ↔ Can (machineOf b₂) 0 p
+      by e p = (λ c. subst (λ z. Can (machineOf z) 0 p) e c, λ c. subst (λ z. Can (machineOf z) 0 p) (sym e) c)
+
+-- The demand whole: from acceptance and room, whatever the builder answered.
+pub accepted-sets-agree : (set₁ work₁ work₁′ table₁ table₁′ : List ℕ) (r₁ : BuildAnswer) → GivenRoom set₁ work₁ table₁ → BuiltAs longest set₁ work₁ work₁′ table₁ table₁′ r₁
+    → (set₂ work₂ work₂′ table₂ table₂′ : List ℕ) (r₂ : BuildAnswer) → GivenRoom set₂ work₂ table₂ → BuiltAs longest set₂ work₂ work₂′ table₂ table₂′ r₂
+    → (take (lengthOf r₁) table₁′ ≡ take (lengthOf r₂) table₂′) ↔ ((p : List Bool) → KeptBy (setOf set₁) p ↔ KeptBy (setOf set₂) p)
+accepted-sets-agree set₁ work₁ work₁′ table₁ table₁′ r₁ given₁ built₁ set₂ work₂ work₂′ table₂ table₂′ r₂ given₂ built₂ =
+    same-bytes-same-patterns set₁ set₂ (take (lengthOf r₁) table₁′) (take (lengthOf r₂) table₂′)
+    (accepted-yields-table set₁ work₁ work₁′ table₁ table₁′ r₁ given₁ built₁) (accepted-yields-table set₂ work₂ work₂′ table₂ table₂′ r₂ given₂ built₂)
+
+module _ (set b : List ℕ) (t : TableOf set b) where
   -- No machine with fewer states walks exactly those patterns.
   pub table-fewest : (n : Machine) → WellMade n → ((p : List Bool) → Walks n p ↔ KeptBy (setOf set) p) → stateCount b ≤ n .states
   table-fewest n w walks =
-      let f = canonical-fewest (built .0) n (KeptBy (setOf set)) (built-canonical set work work′ table table′ size built) w walks in
-      let e = built-one-table set work work′ table table′ size built .states in
+      let f = canonical-fewest (canonical-machine set b t) n (KeptBy (setOf set)) (made-canonical set b t) w walks in
+      let e = made-one-table set b t .states in
       omega arith
 
   pub table-states : stateCount b ≤ mostStates
   table-states =
-      let f = no-more-states (setOf set) (built-allowed set work work′ table table′ size built) (built .0) (built-canonical set work work′ table table′ size built) in
-      let e = built-one-table set work work′ table table′ size built .states in
+      let f = no-more-states (setOf set) (made-allowed set b t) (canonical-machine set b t) (made-canonical set b t) in
+      let e = made-one-table set b t .states in
       omega arith
 
   pub table-passes-check : first (tableRows b) ≡ passed
-  table-passes-check = built-checked set work work′ table table′ size built
-
-  module _ (set₂ work₂ work₂′ table₂ table₂′ : List ℕ) (size₂ : ℕ) (built₂ : BuiltAs longest set₂ work₂ work₂′ table₂ table₂′ (Built size₂)) where
-    abbrev b₂ : List ℕ
-    b₂ = bytes set₂ work₂ work₂′ table₂ table₂′ size₂ built₂
-
-    pub same-bytes-same-patterns : (b ≡ b₂) ↔ ((p : List Bool) → KeptBy (setOf set) p ↔ KeptBy (setOf set₂) p)
-    same-bytes-same-patterns = (
-      λ e p. Iff·trans (Iff·symm (table-walks-kept set work work′ table table′ size built p))
-          (Iff·trans (by e p) (table-walks-kept set₂ work₂ work₂′ table₂ table₂′ size₂ built₂ p)),
-      λ alike. built-bytes set work work′ table table′ size built
-          ∙ bytes-of-one-table (built .0) (built₂ .0) (canonical-unique (built .0) (built₂ .0) (KeptBy (setOf set)) (KeptBy (setOf set₂))
-          (built-canonical set work work′ table table′ size built) (built-canonical set₂ work₂ work₂′ table₂ table₂′ size₂ built₂) alike)
-          ∙ sym (built-bytes set₂ work₂ work₂′ table₂ table₂′ size₂ built₂),
-    )
-      where
-        by : b ≡ b₂ → (p : List Bool) → Can (machineOf b) 0 p ↔ Can (machineOf b₂) 0 p
-        by e p = (λ c. subst (λ z. Can (machineOf z) 0 p) e c, λ c. subst (λ z. Can (machineOf z) 0 p) (sym e) c)
+  table-passes-check = made-checked set b t

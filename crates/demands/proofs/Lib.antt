@@ -1,5 +1,9 @@
+pub mod Tables
+pub mod Room
+pub mod Refusing
+pub mod Numbers
+pub mod Answers
 pub mod Demand1
-pub mod Demand1Guards
 pub mod Demand2
 pub mod Demand3
 pub mod SmallMachines

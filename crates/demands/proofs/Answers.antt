@@ -1,0 +1,111 @@
+-- An answer's refusal is known from what it says, for each of the library's answers. Assumes nothing.
+use mathlib.Core.Path.{_≡_, refl, sym, ap, _∙_}
+use mathlib.Core.Logic.{_↔_}
+use mathlib.Core.List.{List, [], _∷_}
+use Prim.Native.Nat.{ℕ}
+use native.Mathlib.Omega.{arith}
+use Rattle.layout.specs.Refusal.{Row, Tested, passed, refused, first}
+use Rattle.layout.proofs.Rows.{Numbers, from-to, first-number, passed-not-refused, and-then, first-append}
+use Rattle.machines.specs.Machine.{Machine}
+use Rattle.machines.specs.Canonical.{Canonical}
+use Rattle.machines.proofs.Unique.{canonical-unique}
+use Rattle.meaning.specs.Sets.{KeptBy}
+use Rattle.sets.specs.Bytes.{setOf}
+use Rattle.sets.specs.declared.SetAnswer.{SetAnswer}
+use Rattle.sets.specs.declared.SetAnswer.the-variants as read
+use Rattle.sets.specs.Read.{says as read-says}
+use Rattle.sets.specs.declared.SetWritten.{SetWritten}
+use Rattle.sets.specs.declared.SetWritten.the-variants as write
+use Rattle.sets.specs.Write.{says as write-says}
+use Rattle.verdict.specs.declared.Judgement.{Judgement}
+use Rattle.verdict.specs.declared.Judgement.the-variants as judge
+use Rattle.verdict.specs.Judge.{says as judge-says}
+use Rattle.compare.specs.declared.CompareAnswer.{CompareAnswer}
+use Rattle.compare.specs.declared.CompareAnswer.the-variants as compare
+use Rattle.compare.specs.Compare.{BothTested, both-passed, one-refused, in-turn, says as compare-says}
+use Rattle.table.specs.Bytes.{sizeOf}
+use Rattle.builder.specs.declared.BuildAnswer.{BuildAnswer}
+use Rattle.builder.specs.declared.BuildAnswer.the-variants as build
+use Rattle.builder.specs.Build.{roomRow, earlyRows, buildRows, says as build-says}
+use Rattle.demands.specs.Refusing.{Refuses}
+use Rattle.demands.proofs.Refusing.{refuses}
+
+module _ (Number : ℕ → Type 0) (rows : List Row) where
+  pub by-set : (r : SetAnswer) → Numbers Number rows → read-says r ≡ first rows → Refuses read.Refused Number (first rows) r
+  by-set r = refuses read-says read.Refused Number rows r (λ n v. refl) (known r)
+    where
+      known : (r : SetAnswer) (n v : ℕ) → read-says r ≡ refused n v → r ≡ read.Refused n v
+      known read.Accepted n v e = absurd (passed-not-refused e)
+      known (read.Refused k u) n v e = cc
+
+  pub by-written : (r : SetWritten) → Numbers Number rows → write-says r ≡ first rows → Refuses write.Refused Number (first rows) r
+  by-written r = refuses write-says write.Refused Number rows r (λ n v. refl) (known r)
+    where
+      known : (r : SetWritten) (n v : ℕ) → write-says r ≡ refused n v → r ≡ write.Refused n v
+      known (write.Written k) n v e = absurd (passed-not-refused e)
+      known (write.Refused k u) n v e = cc
+
+  pub by-judged : (r : Judgement) → Numbers Number rows → judge-says r ≡ first rows → Refuses judge.Refused Number (first rows) r
+  by-judged r = refuses judge-says judge.Refused Number rows r (λ n v. refl) (known r)
+    where
+      known : (r : Judgement) (n v : ℕ) → judge-says r ≡ refused n v → r ≡ judge.Refused n v
+      known judge.Kept n v e = absurd (passed-not-refused e)
+      known (judge.Lost j i) n v e = absurd (passed-not-refused e)
+      known (judge.Refused k u) n v e = cc
+
+  pub by-built : (r : BuildAnswer) → Numbers Number rows → build-says r ≡ first rows → Refuses build.Refused Number (first rows) r
+  by-built r = refuses build-says build.Refused Number rows r (λ n v. refl) (known r)
+    where
+      known : (r : BuildAnswer) (n v : ℕ) → build-says r ≡ refused n v → r ≡ build.Refused n v
+      known (build.Built k) n v e = absurd (passed-not-refused e)
+      known (build.Refused k u) n v e = cc
+
+-- the comparison, whose refusal also says which set
+both-not-one : {w n v : ℕ} → both-passed ≡ one-refused w n v → ⊥
+both-not-one e = let z : _≡_ {A = ℕ} 0 1 = cc in omega arith
+
+pub by-compared : (r : CompareAnswer) {t : BothTested} → compare-says r ≡ t → (which n v : ℕ) → (r ≡ compare.Refused which n v) ↔ (t ≡ one-refused which n v)
+by-compared r {t} said which n v = (λ e. sym said ∙ ap compare-says e, λ e. known r (said ∙ e))
+  where
+    known : (r : CompareAnswer) → compare-says r ≡ one-refused which n v → r ≡ compare.Refused which n v
+    known compare.Covers e = absurd (both-not-one e)
+    known compare.Between e = absurd (both-not-one e)
+    known (compare.Refused k l u) e = cc
+
+pub one-of : (a b : List Row) → Numbers (from-to 1 7) a → Numbers (from-to 1 7) b → {which n v : ℕ} → in-turn (first a) (first b) ≡ one-refused which n v → from-to 1 2 which × from-to 1 7 n
+one-of a b all-a all-b {which} {n} {v} = go (first a) (first b) refl refl
+  where
+    go : (s t : Tested) → first a ≡ s → first b ≡ t → in-turn s t ≡ one-refused which n v → from-to 1 2 which × from-to 1 7 n
+    go (refused k u) t e f q =
+        let z : 1 ≡ which = cc in
+        let y : k ≡ n = cc in
+        let (l, h) = first-number (from-to 1 7) a k u all-a e in
+        ((omega arith, omega arith), (omega arith, omega arith))
+    go passed (refused k u) e f q =
+        let z : 2 ≡ which = cc in
+        let y : k ≡ n = cc in
+        let (l, h) = first-number (from-to 1 7) b k u all-b f in
+        ((omega arith, omega arith), (omega arith, omega arith))
+    go passed passed e f q = absurd (both-not-one q)
+
+-- what the builder's rows say doesn't depend on which machine stands for the canonical one
+pub one-size : (w : ℕ) (set work table : List ℕ) (m n : Machine)
+    → (first (earlyRows w set work) ≡ passed → Canonical m (KeptBy (setOf set))) → (first (earlyRows w set work) ≡ passed → Canonical n (KeptBy (setOf set)))
+    → first (buildRows w set work table (sizeOf (m .states))) ≡ first (buildRows w set work table (sizeOf (n .states)))
+one-size w set work table m n cm cn = go (first (earlyRows w set work)) refl
+  where
+    rows : (size : ℕ) → first (buildRows w set work table size) ≡ and-then (first (earlyRows w set work)) (first (roomRow table size ∷ []))
+    rows size = first-append (earlyRows w set work) (roomRow table size ∷ [])
+
+    go : (t : Tested) → first (earlyRows w set work) ≡ t → first (buildRows w set work table (sizeOf (m .states))) ≡ first (buildRows w set work table (sizeOf (n .states)))
+    go passed e =
+        let o = canonical-unique m n (KeptBy (setOf set)) (KeptBy (setOf set)) (cm e) (cn e) (λ p. (λ k. k, λ k. k)) in
+        ap (λ z. first (buildRows w set work table (sizeOf z))) (o .states)
+    go (refused k u) e =
+        rows (sizeOf (m .states)) ∙ ap (λ t. and-then t (first (roomRow table (sizeOf (m .states)) ∷ []))) e
+        ∙ sym (rows (sizeOf (n .states)) ∙ ap (λ t. and-then t (first (roomRow table (sizeOf (n .states)) ∷ []))) e)
+
+pub both-accepted : (s t : Tested) → in-turn s t ≡ both-passed → (s ≡ passed) × (t ≡ passed)
+both-accepted (refused k u) t e = absurd (both-not-one (sym e))
+both-accepted passed (refused k u) e = absurd (both-not-one (sym e))
+both-accepted passed passed e = (refl, refl)
