@@ -6,7 +6,7 @@ ghost use lib.ListN.{length};
 ghost use Rattle.layout.specs.Refusal.{first};
 ghost use Rattle.table.specs.Bytes.{pairAt, stateCount};
 ghost use Rattle.table.specs.Rows.{countRows, entryRows, entriesRows};
-ghost use Rattle.table.specs.Check.{answerWhen, CheckedAs, movesOf, lookWhen, LookedAs};
+ghost use Rattle.table.specs.Check.{CheckedAs, LookedAs};
 
 // The most states that a table may have.
 pub const MOST_STATES: usize = 2048;
