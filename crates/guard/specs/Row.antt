@@ -11,11 +11,8 @@ use Rattle.table.specs.Rows.{tableRows, lookRows}
 use Rattle.guard.specs.declared.Guard.{Guard}
 use Rattle.guard.specs.declared.Started.{Started}
 use Rattle.guard.specs.declared.StartAnswer.{StartAnswer}
-use Rattle.guard.specs.declared.StartAnswer.the-variants as start
 use Rattle.guard.specs.declared.AskAnswer.{AskAnswer}
-use Rattle.guard.specs.declared.AskAnswer.the-variants as ask
 use Rattle.guard.specs.declared.TellAnswer.{TellAnswer}
-use Rattle.guard.specs.declared.TellAnswer.the-variants as tell
 use Rattle.guard.specs.Guard.{fresh, startSays, askSays, Standing, after, tellRows, tellSays}
 
 abbrev pub mostGuards : ℕ

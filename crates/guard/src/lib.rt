@@ -3,6 +3,7 @@
 // The row's calls refuse by 14 first.
 ghost use mathlib.Core.Path.{_≡_};
 ghost use mathlib.Core.Bool.{false};
+ghost use Rattle.table.specs.Shared.{passed};
 ghost use Rattle.table.specs.Check.{moveBy};
 ghost use Rattle.guard.specs.Guard.{StartedAs, askSays, StandingBy, AskedAs, afterBy, ToldAs};
 
