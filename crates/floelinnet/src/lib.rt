@@ -7,7 +7,7 @@ ghost use Rattle.verdict.specs.Judge.{JudgedAs};
 ghost use Rattle.compare.specs.Compare.{ComparedAs};
 ghost use Rattle.builder.specs.Build.{BuiltAs};
 ghost use Rattle.table.specs.Check.{CheckedAs};
-ghost use Rattle.guard.specs.Guard.{startedOf, askedOf, toldOf};
+ghost use Rattle.guard.specs.Guard.{StartedAs, AskedAs, ToldAs};
 ghost use Rattle.floelinnet.specs.Flat.{FlatAnswer, flatSet, flatVerdict, flatComparison, flatBuilt, flatChecked, flatStarted, flatAsked, flatTold};
 use guard::Guard;
 use meaning::LimitSet;
@@ -218,7 +218,7 @@ pub extern "C" fn floe_check_table(table: &[u8]) -> FloeChecked
 
 #[no_mangle]
 pub extern "C" fn floe_guard_start(table: &[u8]) -> FloeStarted
-    ensures { λ r. ⌜ FlatAnswer (λ a. a ≡ startedOf (now (table .entry))) flatStarted r ⌝ }
+    ensures { λ r. ⌜ FlatAnswer (StartedAs (now (table .entry))) flatStarted r ⌝ }
 {
     let started = Guard::start(table);
     let answer = started.answer;
@@ -233,7 +233,7 @@ pub extern "C" fn floe_guard_start(table: &[u8]) -> FloeStarted
 
 #[no_mangle]
 pub extern "C" fn floe_guard_ask(guard: Guard, table: &[u8]) -> FloeAsked
-    ensures { λ r. ⌜ FlatAnswer (λ a. a ≡ askedOf (now (table .entry)) guard) flatAsked r ⌝ }
+    ensures { λ r. ⌜ FlatAnswer (AskedAs (now (table .entry)) guard) flatAsked r ⌝ }
 {
     let asked = guard.ask(table);
     let answer = asked.answer;
@@ -249,7 +249,7 @@ pub extern "C" fn floe_guard_ask(guard: Guard, table: &[u8]) -> FloeAsked
 
 #[no_mangle]
 pub extern "C" fn floe_guard_tell(guard: Guard, table: &[u8], outcome: u8) -> FloeTold
-    ensures { λ r. ⌜ FlatAnswer (λ a. a ≡ toldOf (now (table .entry)) guard outcome) flatTold r ⌝ }
+    ensures { λ r. ⌜ FlatAnswer (ToldAs (now (table .entry)) guard outcome) flatTold r ⌝ }
 {
     let told = guard.tell(table, outcome);
     let answer = told.answer;

@@ -1,18 +1,19 @@
 -- What a guard answers after outcomes: a question of walking them, and them with one more miss. Assumes nothing.
-use mathlib.Core.Path.{_≡_, refl, sym, ap, _∙_}
-use mathlib.Core.Logic.{dite}
-use mathlib.Core.Option.{Option, none, some}
-use mathlib.Core.Bool.{Bool, false}
+use mathlib.Core.Path.{_≡_, refl, sym, ap, subst, _∙_}
+use mathlib.Core.Logic.{_↔_, dite}
+use mathlib.Core.Option.{Option, none, some, Option·none-ne-some}
+use mathlib.Core.Bool.{Bool, false, true≢false}
 use mathlib.Core.List.{List, [], _∷_, _++_}
 use Prim.Native.Nat.{ℕ}
-use native.Mathlib.Omega.{arith}
-use Rattle.table.specs.Shared.{Machine, walk, Can}
-use Rattle.table.proofs.Shared.{walk-snoc, can-dec, can-prefix}
+use Rattle.table.specs.Shared.{passed, Machine, walk, Can}
+use Rattle.table.proofs.Shared.{walk-snoc, can-dec}
 use Rattle.guard.specs.declared.Guard.{Guard}
+use Rattle.guard.specs.declared.AskAnswer.{AskAnswer}
 use Rattle.guard.specs.declared.AskAnswer.the-variants as ask
-use Rattle.guard.specs.Guard.{onMiss, answerTo}
+use Rattle.guard.specs.Guard.{askSays, Standing}
 use Rattle.guard.specs.Told.{inState, afterAll, ByWalk}
-use Rattle.guard.proofs.Walked.{told-walk, lost-when}
+use Rattle.guard.proofs.Walked.{told-walk, lost-when, lost-not-walked}
+use Rattle.guard.proofs.OneResult.{same-ask}
 
 module _ (m : Machine) (s : ℕ) (p : List Bool) where
   abbrev g : Guard
@@ -21,42 +22,42 @@ module _ (m : Machine) (s : ℕ) (p : List Bool) where
   abbrev missed : List Bool
   missed = p ++ false ∷ []
 
-  asked-lost : (Can m s p → ⊥) → answerTo m g ≡ ask.Lost
-  asked-lost n = rw (lost-when m s p n)
+  kept-walked : g .lost ≡ false → Can m s p
+  kept-walked kept = dite (can-dec m s p) (λ c. c) (λ n. absurd (true≢false (sym (lost-when m s p n) ∙ kept)))
 
-  asked-walked : (t : ℕ) → walk m s p ≡ some t → answerTo m g ≡ onMiss (walk m s missed)
-  asked-walked t e = ap (answerTo m) (told-walk m s t p e) ∙ sym (ap onMiss (walk-snoc m s t p false e))
+  walked-kept : Can m s p → g .lost ≡ false
+  walked-kept (t, e) = ap (λ z. z .lost) (told-walk m s t p e)
 
-  asked-panic : Can m s p → (Can m s missed → ⊥) → answerTo m g ≡ ask.Panic
-  asked-panic (t, e) n = asked-walked t e ∙ go (walk m s missed) refl
+  miss-walks : Can m s p → m .next (g .state) false ≡ walk m s missed
+  miss-walks (t, e) = ap (λ z. m .next (z .state) false) (told-walk m s t p e) ∙ sym (walk-snoc m s t p false e)
+
+  stands-panic : Standing m g ask.Panic ↔ (Can m s p × (Can m s missed → ⊥))
+  stands-panic = (
+    λ (kept, stays).
+        let c = kept-walked kept in (c, λ (u, f). Option·none-ne-some u (sym stays ∙ miss-walks c ∙ f)),
+    λ (c, n). (walked-kept c, miss-walks c ∙ none-walked (walk m s missed) refl n),
+  )
     where
-      go : (r : Option ℕ) → walk m s missed ≡ r → onMiss r ≡ ask.Panic
-      go none f = refl
-      go (some u) f = absurd (n (u, f))
+      none-walked : (r : Option ℕ) → walk m s missed ≡ r → (Can m s missed → ⊥) → r ≡ none
+      none-walked none e n = refl
+      none-walked (some u) e n = absurd (n (u, e))
 
-  asked-normal : Can m s missed → answerTo m g ≡ ask.Normal
-  asked-normal (u, f) =
-      let (t, e) = can-prefix m s p (false ∷ []) (u, f) in
-      asked-walked t e ∙ ap onMiss f
+  stands-normal : Standing m g ask.Normal ↔ (Can m s p × Can m s missed)
+  stands-normal = (
+    λ (kept, (u, moves)).
+        let c = kept-walked kept in (c, (u, sym (miss-walks c) ∙ moves)),
+    λ (c, (u, f)). (walked-kept c, (u, miss-walks c ∙ f)),
+  )
 
-  to-lost : answerTo m g ≡ ask.Lost → Can m s p → ⊥
-  to-lost e c = dite (can-dec m s missed)
-      (λ y. let z : _≡_ {A = ℕ} 0 1 = cc (asked-normal y) in omega arith)
-      (λ n. let z : _≡_ {A = ℕ} 0 1 = cc (asked-panic c n) in omega arith)
+  module _ (a : AskAnswer) (passes : askSays a ≡ passed) (stands : Standing m g a) where
+    -- the answer is the one whose case holds of the guard
+    is-case : {P : Type 0} (x : AskAnswer) → askSays x ≡ passed → Standing m g x ↔ P → (a ≡ x) ↔ P
+    is-case x says (to, from) =
+        (λ e. to (subst (Standing m g) e stands), λ h. same-ask (m .next (g .state) false) g a x (passes ∙ sym says) stands (from h))
 
-  to-panic : answerTo m g ≡ ask.Panic → Can m s p × (Can m s missed → ⊥)
-  to-panic e = dite (can-dec m s p)
-      (λ c. (c, λ y. let z : _≡_ {A = ℕ} 0 1 = cc (asked-normal y) in omega arith))
-      (λ n. let z : _≡_ {A = ℕ} 0 1 = cc (asked-lost n) in absurd (omega arith))
-
-  to-normal : answerTo m g ≡ ask.Normal → Can m s p × Can m s missed
-  to-normal e = dite (can-dec m s p)
-      (λ c. (c, dite (can-dec m s missed) (λ y. y) (λ n. let z : _≡_ {A = ℕ} 0 1 = cc (asked-panic c n) in absurd (omega arith))))
-      (λ n. let z : _≡_ {A = ℕ} 0 1 = cc (asked-lost n) in absurd (omega arith))
-
-  pub ask-by-walk : ByWalk m s p (answerTo m g)
-  ask-by-walk = record {
-    lost = (to-lost, asked-lost);
-    panic = (to-panic, λ (c, n). asked-panic c n);
-    normal = (to-normal, λ (c, y). asked-normal y);
-  }
+    pub ask-by-walk : ByWalk m s p a
+    ask-by-walk = record {
+      lost = is-case ask.Lost refl (lost-not-walked m s p);
+      panic = is-case ask.Panic refl stands-panic;
+      normal = is-case ask.Normal refl stands-normal;
+    }

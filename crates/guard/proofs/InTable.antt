@@ -9,15 +9,15 @@ use native.Mathlib.Decide.{decLt}
 use native.Mathlib.Omega.{arith}
 use borrow.Author.Tests.{lt-ltb, le-ltb}
 use lib.Dec.{ltb}
-use Rattle.table.specs.Shared.{row, passed, first, outcome, Machine, WellMade}
+use Rattle.table.specs.Shared.{row, passed, refused, first, outcome, Machine, WellMade}
 use Rattle.table.specs.Bytes.{stateCount, machineOf}
 use Rattle.table.specs.Rows.{tableRows, lookRows}
 use Rattle.table.proofs.Shared.{first-here, first-skip}
 use Rattle.table.proofs.Turns.{passed-before}
 use Rattle.table.proofs.Checked.{checked-looks, checked-well-made}
 use Rattle.guard.specs.declared.Guard.{Guard}
-use Rattle.guard.specs.declared.TellAnswer.the-variants as tell
-use Rattle.guard.specs.Guard.{fresh, answerTo, askedWhen, askedOf, moved, after, tellRows, toldWhen, toldOf}
+use Rattle.guard.specs.declared.Asked.{Asked}
+use Rattle.guard.specs.Guard.{fresh, askSays, AskedAs, moved, after, tellRows, toldWhen}
 use Rattle.guard.specs.Told.{afterAll, toldAll, heard, ByWalk}
 use Rattle.guard.proofs.Answered.{ask-by-walk}
 
@@ -39,28 +39,28 @@ module _ (b : List ℕ) (e : first (tableRows b) ≡ passed) where
   m = machineOf b
 
   module _ (g : Guard) (h : g .state < stateCount b) where
-    pub asked-in-table : askedOf b g ≡ record { answer = answerTo m g; guard = g }
-    asked-in-table = ap (λ t. askedWhen t m g) (checked-looks b e (g .state) h)
+    pub asked-in-table : (r : Asked) → AskedAs b g r → askSays (r .answer) ≡ passed
+    asked-in-table r asked = asked .refusal ∙ checked-looks b e (g .state) h
 
     left-13 : (byte : ℕ) → first (tellRows b g byte) ≡ first (row 13 (ltb 1 byte) 0 ∷ [])
     left-13 byte = passed-before (lookRows b (g .state)) (row 13 (ltb 1 byte) 0 ∷ []) (checked-looks b e (g .state) h)
 
-    pub told-in-table : (byte : ℕ) → byte ≤ 1 → toldOf b g byte ≡ record { answer = tell.Told; guard = after m g (outcome byte) }
+    pub told-in-table : (byte : ℕ) → byte ≤ 1 → first (tellRows b g byte) ≡ passed
     unfolding first
-    told-in-table byte l = ap (λ t. toldWhen t m g (outcome byte)) (left-13 byte ∙ first-skip 13 0 (ltb 1 byte) [] (le-ltb 1 byte l))
+    told-in-table byte l = left-13 byte ∙ first-skip 13 0 (ltb 1 byte) [] (le-ltb 1 byte l)
 
-    pub refused-in-table : (byte : ℕ) → 1 < byte → toldOf b g byte ≡ record { answer = tell.Refused 13 0; guard = g }
-    refused-in-table byte l = ap (λ t. toldWhen t m g (outcome byte)) (left-13 byte ∙ first-here 13 0 (ltb 1 byte) [] (lt-ltb 1 byte l))
+    pub refused-in-table : (byte : ℕ) → 1 < byte → first (tellRows b g byte) ≡ refused 13 0
+    refused-in-table byte l = left-13 byte ∙ first-here 13 0 (ltb 1 byte) [] (lt-ltb 1 byte l)
 
   told-heard : (g : Guard) (bytes : List ℕ) → g .state < stateCount b → toldAll b g bytes ≡ afterAll m g (heard bytes)
   told-heard g [] h = refl
   told-heard g (byte ∷ bytes) h =
       dite (decLt 1 byte)
-      (λ l. ap (λ t. toldAll b (t .guard) bytes) (refused-in-table g h byte l) ∙ told-heard g bytes h ∙ sym (rw (lt-ltb 1 byte l)))
+      (λ l. ap (λ t. toldAll b (toldWhen t m g (outcome byte)) bytes) (refused-in-table g h byte l) ∙ told-heard g bytes h ∙ sym (rw (lt-ltb 1 byte l)))
       (λ l.
       let k : byte ≤ 1 = omega arith in
       let o = outcome byte in
-      ap (λ t. toldAll b (t .guard) bytes) (told-in-table g h byte k)
+      ap (λ t. toldAll b (toldWhen t m g o) bytes) (told-in-table g h byte k)
       ∙ told-heard (after m g o) bytes (state-below m (checked-well-made b e) g o h)
       ∙ sym (rw (le-ltb 1 byte k)))
 
@@ -74,9 +74,7 @@ module _ (b : List ℕ) (e : first (tableRows b) ≡ passed) where
   never-leaves p = states-below m (checked-well-made b e) fresh p some-state
 
   -- a guard started on a checked table, told these bytes and asked
-  pub answers-by-walk : (bytes : List ℕ) → ByWalk m 0 (heard bytes) (askedOf b (toldAll b fresh bytes) .answer)
-  answers-by-walk bytes =
-      let g = afterAll m fresh (heard bytes) in
-      subst (ByWalk m 0 (heard bytes))
-      (sym (ap (λ z. askedOf b z .answer) (told-all bytes) ∙ ap (λ z. z .answer) (asked-in-table g (never-leaves (heard bytes)))))
-      (ask-by-walk m 0 (heard bytes))
+  pub answers-by-walk : (bytes : List ℕ) (r : Asked) → AskedAs b (toldAll b fresh bytes) r → ByWalk m 0 (heard bytes) (r .answer)
+  answers-by-walk bytes r asked =
+      let walked = subst (λ g. AskedAs b g r) (told-all bytes) asked in
+      ask-by-walk m 0 (heard bytes) (r .answer) (asked-in-table (afterAll m fresh (heard bytes)) (never-leaves (heard bytes)) r walked) (walked .answer)

@@ -8,22 +8,30 @@ use Rattle.table.proofs.Worked.{any-hit-1-2}
 use Rattle.guard.specs.declared.Guard.{Guard}
 use Rattle.guard.specs.declared.AskAnswer.{AskAnswer}
 use Rattle.guard.specs.declared.AskAnswer.the-variants as ask
-use Rattle.guard.specs.Guard.{fresh, askedOf}
+use Rattle.guard.specs.Guard.{fresh, AskedAs}
 use Rattle.guard.specs.Told.{toldAll}
 
 abbrev told : List ℕ → Guard
 told bytes = toldAll any-hit-1-2 fresh bytes
 
-abbrev asked : List ℕ → AskAnswer
-asked bytes = askedOf any-hit-1-2 (told bytes) .answer
+abbrev Answers : List ℕ → AskAnswer → Type 0
+Answers bytes a = AskedAs any-hit-1-2 (told bytes) (record { answer = a; guard = told bytes })
 
 pub any-hit-1-2-answers :
-    (asked [] ≡ ask.Normal)
-    × (asked (0 ∷ []) ≡ ask.Panic)
-    × (asked (0 ∷ 1 ∷ []) ≡ ask.Normal)
-    × (asked (0 ∷ 2 ∷ []) ≡ ask.Panic)
-    × (asked (0 ∷ 0 ∷ []) ≡ ask.Lost)
-    × (asked (0 ∷ 0 ∷ 1 ∷ []) ≡ ask.Lost)
+    Answers [] ask.Normal
+    × Answers (0 ∷ []) ask.Panic
+    × Answers (0 ∷ 1 ∷ []) ask.Normal
+    × Answers (0 ∷ 2 ∷ []) ask.Panic
+    × Answers (0 ∷ 0 ∷ []) ask.Lost
+    × Answers (0 ∷ 0 ∷ 1 ∷ []) ask.Lost
     × (told (0 ∷ 0 ∷ 1 ∷ []) ≡ record { state = 1; lost = true })
 unfolding first
-any-hit-1-2-answers = (refl, refl, refl, refl, refl, refl, refl)
+any-hit-1-2-answers = (
+  record { refusal = refl; answer = (refl, (1, refl)); guard = refl },
+  record { refusal = refl; answer = (refl, refl); guard = refl },
+  record { refusal = refl; answer = (refl, (1, refl)); guard = refl },
+  record { refusal = refl; answer = (refl, refl); guard = refl },
+  record { refusal = refl; answer = refl; guard = refl },
+  record { refusal = refl; answer = refl; guard = refl },
+  refl,
+)

@@ -1,4 +1,5 @@
 -- "A guard is a small record that goes in and comes back: start, ask, tell."
+use mathlib.Core.Path.{_≡_}
 use mathlib.Core.Option.{Option, none, some}
 use mathlib.Core.Bool.{Bool, true, false, cond}
 use mathlib.Core.List.{List, [], _∷_, _++_}
@@ -11,41 +12,49 @@ use Rattle.guard.specs.declared.Guard.{Guard}
 use Rattle.guard.specs.declared.Started.{Started}
 use Rattle.guard.specs.declared.Asked.{Asked}
 use Rattle.guard.specs.declared.Told.{Told}
+use Rattle.guard.specs.declared.StartAnswer.{StartAnswer}
 use Rattle.guard.specs.declared.StartAnswer.the-variants as start
 use Rattle.guard.specs.declared.AskAnswer.{AskAnswer}
 use Rattle.guard.specs.declared.AskAnswer.the-variants as ask
+use Rattle.guard.specs.declared.TellAnswer.{TellAnswer}
 use Rattle.guard.specs.declared.TellAnswer.the-variants as tell
 
 -- "a guard not lost, in state 0"
 abbrev pub fresh : Guard
 fresh = record { state = 0; lost = false }
 
--- starting tests the whole table for 10 to 12
-abbrev pub startedWhen : Tested → Started
-startedWhen passed = record { answer = start.Started; guard = fresh }
-startedWhen (refused number at) = record { answer = start.Refused number at; guard = fresh }
+-- the number of each answer of a start, and what else is returned
+abbrev pub startSays : StartAnswer → Tested
+startSays start.Started = passed
+startSays (start.Refused number at) = refused number at
 
-abbrev pub startedOf : List ℕ → Started
-startedOf b = startedWhen (first (tableRows b))
+-- starting tests the whole table for 10 to 12; the guard is the same, refused or not
+pub record StartedAs (b : List ℕ) (r : Started) : Type 0 where
+  pub refusal : startSays (r .answer) ≡ first (tableRows b)
+  pub guard : r .guard ≡ fresh
 
--- "Ask answers normal, panic or lost": lost for a lost guard; else panic where the machine has no move on a miss
-abbrev pub onMiss : Option ℕ → AskAnswer
-onMiss none = ask.Panic
-onMiss (some t) = ask.Normal
+-- the number of each answer of an ask, and what else is returned
+abbrev pub askSays : AskAnswer → Tested
+askSays ask.Normal = passed
+askSays ask.Panic = passed
+askSays ask.Lost = passed
+askSays (ask.Refused number at) = refused number at
 
-abbrev pub answerBy : Option ℕ → Guard → AskAnswer
-answerBy miss g = cond (g .lost) ask.Lost (onMiss miss)
+-- "Ask answers normal, panic or lost": what an answer that isn't a refusal says of a guard, by where a miss leads from its state
+abbrev pub StandingBy : Option ℕ → Guard → AskAnswer → Type 0
+StandingBy miss g ask.Normal = (g .lost ≡ false) × ((t : ℕ) × (miss ≡ some t))
+StandingBy miss g ask.Panic = (g .lost ≡ false) × (miss ≡ none)
+StandingBy miss g ask.Lost = g .lost ≡ true
+StandingBy miss g (ask.Refused number at) = Unit {0}
 
-abbrev pub answerTo : Machine → Guard → AskAnswer
-answerTo m g = answerBy (m .next (g .state) false) g
+abbrev pub Standing : Machine → Guard → AskAnswer → Type 0
+Standing m g = StandingBy (m .next (g .state) false) g
 
-abbrev pub askedWhen : Tested → Machine → Guard → Asked
-askedWhen passed m g = record { answer = answerTo m g; guard = g }
-askedWhen (refused number at) m g = record { answer = ask.Refused number at; guard = g }
-
--- all of it for a lost guard too
-abbrev pub askedOf : List ℕ → Guard → Asked
-askedOf b g = askedWhen (first (lookRows b (g .state))) (machineOf b) g
+-- all of it for a lost guard too; the guard comes back as it was
+pub record AskedAs (b : List ℕ) (g : Guard) (r : Asked) : Type 0 where
+  pub refusal : askSays (r .answer) ≡ first (lookRows b (g .state))
+  pub answer : Standing (machineOf b) g (r .answer)
+  pub guard : r .guard ≡ g
 
 -- "A miss told in panic makes it lost, its state number then stays, and it is lost until the caller starts a new guard."
 abbrev pub moved : Option ℕ → Guard → Guard
@@ -62,9 +71,19 @@ after m g o = afterBy (m .next (g .state) o) g
 abbrev pub tellRows : List ℕ → Guard → ℕ → List Row
 tellRows b g byte = lookRows b (g .state) ++ row 13 (ltb 1 byte) 0 ∷ []
 
-abbrev pub toldWhen : Tested → Machine → Guard → Bool → Told
-toldWhen passed m g o = record { answer = tell.Told; guard = after m g o }
-toldWhen (refused number at) m g o = record { answer = tell.Refused number at; guard = g }
+-- the number of each answer of a tell, and what else is returned
+abbrev pub tellSays : TellAnswer → Tested
+tellSays tell.Told = passed
+tellSays (tell.Refused number at) = refused number at
 
-abbrev pub toldOf : List ℕ → Guard → ℕ → Told
+-- the guard after a tell: moved by the outcome, or as it was where the tell is refused
+abbrev pub toldWhen : Tested → Machine → Guard → Bool → Guard
+toldWhen passed m g o = after m g o
+toldWhen (refused number at) m g o = g
+
+abbrev pub toldOf : List ℕ → Guard → ℕ → Guard
 toldOf b g byte = toldWhen (first (tellRows b g byte)) (machineOf b) g (outcome byte)
+
+pub record ToldAs (b : List ℕ) (g : Guard) (byte : ℕ) (r : Told) : Type 0 where
+  pub refusal : tellSays (r .answer) ≡ first (tellRows b g byte)
+  pub guard : r .guard ≡ toldOf b g byte

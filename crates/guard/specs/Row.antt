@@ -11,12 +11,9 @@ use Rattle.table.specs.Rows.{tableRows, lookRows}
 use Rattle.guard.specs.declared.Guard.{Guard}
 use Rattle.guard.specs.declared.Started.{Started}
 use Rattle.guard.specs.declared.StartAnswer.{StartAnswer}
-use Rattle.guard.specs.declared.StartAnswer.the-variants as start
 use Rattle.guard.specs.declared.AskAnswer.{AskAnswer}
-use Rattle.guard.specs.declared.AskAnswer.the-variants as ask
 use Rattle.guard.specs.declared.TellAnswer.{TellAnswer}
-use Rattle.guard.specs.declared.TellAnswer.the-variants as tell
-use Rattle.guard.specs.Guard.{fresh, answerTo, after, tellRows}
+use Rattle.guard.specs.Guard.{fresh, startSays, askSays, Standing, after, tellRows, tellSays}
 
 abbrev pub mostGuards : ℕ
 mostGuards = 16
@@ -38,42 +35,42 @@ pub record ChangesOnly (job : ℕ) (r r′ : List Guard) : Type 0 where
   pub others : (other : ℕ) → (other ≡ job → ⊥) → guardAt r′ other ≡ guardAt r other
 
 -- a guard started anew: where it is refused, the old guard stays
-abbrev pub anewWhen : Tested → Guard → Started
-anewWhen passed g = record { answer = start.Started; guard = fresh }
-anewWhen (refused number at) g = record { answer = start.Refused number at; guard = g }
+abbrev pub anewWhen : Tested → Guard → Guard
+anewWhen passed g = fresh
+anewWhen (refused number at) g = g
 
-abbrev pub anewOf : List ℕ → Guard → Started
-anewOf b g = anewWhen (first (tableRows b)) g
+pub record AnewAs (b : List ℕ) (g : Guard) (r : Started) : Type 0 where
+  pub refusal : startSays (r .answer) ≡ first (tableRows b)
+  pub guard : r .guard ≡ anewWhen (first (tableRows b)) g
 
 -- start: the answer, and the row then
 abbrev pub rowStartRows : List Guard → ℕ → List ℕ → List Row
 rowStartRows r job b = jobRow r job ∷ tableRows b
 
-abbrev pub rowStartedWhen : Tested → List Guard → ℕ → StartAnswer × List Guard
-rowStartedWhen passed r job = (start.Started, set r job fresh)
-rowStartedWhen (refused number at) r job = (start.Refused number at, r)
+abbrev pub rowStartedWhen : Tested → List Guard → ℕ → List Guard
+rowStartedWhen passed r job = set r job fresh
+rowStartedWhen (refused number at) r job = r
 
-abbrev pub rowStartedOf : List Guard → ℕ → List ℕ → StartAnswer × List Guard
-rowStartedOf r job b = rowStartedWhen (first (rowStartRows r job b)) r job
+pub record RowStartedAs (r : List Guard) (job : ℕ) (b : List ℕ) (a : StartAnswer) (r′ : List Guard) : Type 0 where
+  pub refusal : startSays a ≡ first (rowStartRows r job b)
+  pub row : r′ ≡ rowStartedWhen (first (rowStartRows r job b)) r job
 
 -- ask: the answer; the row is only read
 abbrev pub rowAskRows : List Guard → ℕ → List ℕ → List Row
 rowAskRows r job b = jobRow r job ∷ lookRows b (guardAt r job .state)
 
-abbrev pub rowAskedWhen : Tested → Machine → List Guard → ℕ → AskAnswer
-rowAskedWhen passed m r job = answerTo m (guardAt r job)
-rowAskedWhen (refused number at) m r job = ask.Refused number at
-
-abbrev pub rowAskedOf : List Guard → ℕ → List ℕ → AskAnswer
-rowAskedOf r job b = rowAskedWhen (first (rowAskRows r job b)) (machineOf b) r job
+pub record RowAskedAs (r : List Guard) (job : ℕ) (b : List ℕ) (a : AskAnswer) : Type 0 where
+  pub refusal : askSays a ≡ first (rowAskRows r job b)
+  pub answer : Standing (machineOf b) (guardAt r job) a
 
 -- tell: the answer, and the row then
 abbrev pub rowTellRows : List Guard → ℕ → List ℕ → ℕ → List Row
 rowTellRows r job b byte = jobRow r job ∷ tellRows b (guardAt r job) byte
 
-abbrev pub rowToldWhen : Tested → Machine → List Guard → ℕ → Bool → TellAnswer × List Guard
-rowToldWhen passed m r job o = (tell.Told, set r job (after m (guardAt r job) o))
-rowToldWhen (refused number at) m r job o = (tell.Refused number at, r)
+abbrev pub rowToldWhen : Tested → Machine → List Guard → ℕ → Bool → List Guard
+rowToldWhen passed m r job o = set r job (after m (guardAt r job) o)
+rowToldWhen (refused number at) m r job o = r
 
-abbrev pub rowToldOf : List Guard → ℕ → List ℕ → ℕ → TellAnswer × List Guard
-rowToldOf r job b byte = rowToldWhen (first (rowTellRows r job b byte)) (machineOf b) r job (outcome byte)
+pub record RowToldAs (r : List Guard) (job : ℕ) (b : List ℕ) (byte : ℕ) (a : TellAnswer) (r′ : List Guard) : Type 0 where
+  pub refusal : tellSays a ≡ first (rowTellRows r job b byte)
+  pub row : r′ ≡ rowToldWhen (first (rowTellRows r job b byte)) (machineOf b) r job (outcome byte)

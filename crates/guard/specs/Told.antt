@@ -24,7 +24,7 @@ afterAll m g (o ∷ p) = afterAll m (after m g o) p
 -- the guard after tells of these bytes on table b
 abbrev pub toldAll : List ℕ → Guard → List ℕ → Guard
 toldAll b g [] = g
-toldAll b g (byte ∷ bytes) = toldAll b (toldOf b g byte .guard) bytes
+toldAll b g (byte ∷ bytes) = toldAll b (toldOf b g byte) bytes
 
 -- the outcomes told: "A refused tell isn't an outcome told."
 abbrev pub heard : List ℕ → List Bool

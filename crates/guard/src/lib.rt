@@ -3,8 +3,9 @@
 // The row's calls refuse by 14 first.
 ghost use mathlib.Core.Path.{_≡_};
 ghost use mathlib.Core.Bool.{false};
+ghost use Rattle.table.specs.Shared.{passed};
 ghost use Rattle.table.specs.Check.{moveBy};
-ghost use Rattle.guard.specs.Guard.{startedOf, answerBy, askedOf, afterBy, toldOf};
+ghost use Rattle.guard.specs.Guard.{StartedAs, askSays, StandingBy, AskedAs, afterBy, ToldAs};
 
 pub mod row;
 
@@ -54,7 +55,7 @@ pub struct Told {
 impl Guard {
     // A guard in state 0, not lost; a refused start gives the same guard.
     pub fn start(table: &[u8]) -> Started
-        ensures { λ r. ⌜ r ≡ startedOf (now (table .entry)) ⌝ }
+        ensures { λ r. ⌜ StartedAs (now (table .entry)) r ⌝ }
     {
         let guard = Guard {
             state: 0,
@@ -75,7 +76,7 @@ impl Guard {
 
     // What the moves of its state let a guard answer.
     fn answer(self, moves: Moves) -> AskAnswer
-        ensures { λ r. ⌜ r ≡ answerBy (moveBy moves false) self ⌝ }
+        ensures { λ r. ⌜ (askSays r ≡ passed) × StandingBy (moveBy moves false) self r ⌝ }
     {
         if self.lost {
             return AskAnswer::Lost;
@@ -113,7 +114,7 @@ impl Guard {
 
     // Before a job: whether a miss is still allowed.
     pub fn ask(self, table: &[u8]) -> Asked
-        ensures { λ r. ⌜ r ≡ askedOf (now (table .entry)) self ⌝ }
+        ensures { λ r. ⌜ AskedAs (now (table .entry)) self r ⌝ }
     {
         let state = self.state;
         let looked = table::look(table, state);
@@ -134,7 +135,7 @@ impl Guard {
 
     // After a job: its outcome, 1 for a hit and 0 for a miss.
     pub fn tell(self, table: &[u8], outcome: u8) -> Told
-        ensures { λ r. ⌜ r ≡ toldOf (now (table .entry)) self outcome ⌝ }
+        ensures { λ r. ⌜ ToldAs (now (table .entry)) self outcome r ⌝ }
     {
         let state = self.state;
         let looked = table::look(table, state);

@@ -3,7 +3,7 @@
 ghost use mathlib.Core.Path.{_≡_};
 ghost use mathlib.Core.Bool.{false};
 ghost use Prim.Native.Nat.{_<_};
-ghost use Rattle.guard.specs.Row.{mostGuards, outside, anewOf, rowStartedOf, rowAskedOf, rowToldOf};
+ghost use Rattle.guard.specs.Row.{mostGuards, outside, AnewAs, RowStartedAs, RowAskedAs, RowToldAs};
 use super::AskAnswer;
 use super::Guard;
 use super::StartAnswer;
@@ -26,7 +26,7 @@ fn refuses(count: usize, job: usize) -> bool
 impl Guard {
     // A guard started anew; where the table is refused, the old guard stays.
     fn anew(self, table: &[u8]) -> Started
-        ensures { λ r. ⌜ r ≡ anewOf (now (table .entry)) self ⌝ }
+        ensures { λ r. ⌜ AnewAs (now (table .entry)) self r ⌝ }
     {
         let started = Guard::start(table);
         let answer = started.answer;
@@ -42,7 +42,7 @@ impl Guard {
 
 // Starts one job's guard anew; where the table is refused, its old guard stays.
 pub fn start(row: &mut [Guard], job: usize, table: &[u8]) -> StartAnswer
-    ensures { λ r. ⌜ (r, now (row .exit)) ≡ rowStartedOf (now (row .entry)) job (now (table .entry)) ⌝ }
+    ensures { λ r. ⌜ RowStartedAs (now (row .entry)) job (now (table .entry)) r (now (row .exit)) ⌝ }
 {
     if refuses(row.len(), job) {
         return StartAnswer::Refused { number: 14, at: 0 };
@@ -54,7 +54,7 @@ pub fn start(row: &mut [Guard], job: usize, table: &[u8]) -> StartAnswer
 
 // Asks one job's guard.
 pub fn ask(row: &[Guard], job: usize, table: &[u8]) -> AskAnswer
-    ensures { λ r. ⌜ r ≡ rowAskedOf (now (row .entry)) job (now (table .entry)) ⌝ }
+    ensures { λ r. ⌜ RowAskedAs (now (row .entry)) job (now (table .entry)) r ⌝ }
 {
     if refuses(row.len(), job) {
         return AskAnswer::Refused { number: 14, at: 0 };
@@ -65,7 +65,7 @@ pub fn ask(row: &[Guard], job: usize, table: &[u8]) -> AskAnswer
 
 // Tells one job's guard an outcome.
 pub fn tell(row: &mut [Guard], job: usize, table: &[u8], outcome: u8) -> TellAnswer
-    ensures { λ r. ⌜ (r, now (row .exit)) ≡ rowToldOf (now (row .entry)) job (now (table .entry)) outcome ⌝ }
+    ensures { λ r. ⌜ RowToldAs (now (row .entry)) job (now (table .entry)) outcome r (now (row .exit)) ⌝ }
 {
     if refuses(row.len(), job) {
         return TellAnswer::Refused { number: 14, at: 0 };

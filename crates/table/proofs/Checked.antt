@@ -20,7 +20,7 @@ use Rattle.table.proofs.Turns.{passed-before}
 ruleset tests = (le-ltb, lt-leb, eq-eqb, ne-eqb, and-false)
 
 -- the head of a table
-pub record Counts (b : List ℕ) : Type 0 where
+pub record Head (b : List ℕ) : Type 0 where
   pub whole : length b ≡ sizeOf (stateCount b)
   pub rest : lengthField b ≡ 3 + 4 * stateCount b
   pub one : version b ≡ 1
@@ -33,11 +33,11 @@ pub record Entry (b : List ℕ) (s : ℕ) : Type 0 where
   pub hit-below : hitEntry b s < stateCount b
 
 pub record Table (b : List ℕ) : Type 0 where
-  pub counts : Counts b
+  pub counts : Head b
   pub entry : (s : ℕ) → s < stateCount b → Entry b s
 
 module _ (b : List ℕ) where
-  pub passed-counts : first (countRows b) ≡ passed → Counts b
+  pub passed-counts : first (countRows b) ≡ passed → Head b
   passed-counts e =
       let (a₁, e₁) = passed-first _ _ e in
       let (a₂, e₂) = passed-first _ _ e₁ in
@@ -57,7 +57,7 @@ module _ (b : List ℕ) where
         most = ltb-false mostStates (stateCount b) k;
       }
 
-  pub counts-passed : Counts b → first (countRows b) ≡ passed
+  pub counts-passed : Head b → first (countRows b) ≡ passed
   unfolding first
   counts-passed c =
       let n : 7 ≤ length b = omega arith in

@@ -14,13 +14,19 @@ use Rattle.table.specs.declared.Looked.the-variants as look
 use Rattle.table.specs.Bytes.{stateCount, missEntry, hitEntry, noMiss}
 use Rattle.table.specs.Rows.{tableRows, lookRows}
 
--- the answer that a test gives, with n where it is passed
-abbrev pub answerWhen : Tested → ℕ → TableAnswer
-answerWhen passed n = States n
-answerWhen (refused number at) n = Refused number at
+-- the number of each answer, and what else is returned
+abbrev pub says : TableAnswer → Tested
+says (States n) = passed
+says (Refused number at) = refused number at
 
-abbrev pub CheckedAs : List ℕ → TableAnswer → Type 0
-CheckedAs b r = r ≡ answerWhen (first (tableRows b)) (stateCount b)
+-- what an answer that isn't a refusal says of the table: how many states it has
+abbrev pub Counts : List ℕ → TableAnswer → Type 0
+Counts b (States n) = n ≡ stateCount b
+Counts b (Refused number at) = Unit {0}
+
+pub record CheckedAs (b : List ℕ) (r : TableAnswer) : Type 0 where
+  pub refusal : says r ≡ first (tableRows b)
+  pub states : Counts b r
 
 -- the moves that an entry says, and those of state s
 abbrev pub movesBy : (miss hit : ℕ) → moves.Moves
@@ -34,9 +40,16 @@ abbrev pub moveBy : moves.Moves → Bool → Option ℕ
 moveBy m true = some (m .hit)
 moveBy m false = cond (m .«may_miss») (some (m .miss)) none
 
-abbrev pub lookWhen : Tested → moves.Moves → Looked
-lookWhen passed m = look.Moves m
-lookWhen (refused number at) m = look.Refused number at
+-- the number of each answer of a look, and what else is returned
+abbrev pub lookSays : Looked → Tested
+lookSays (look.Moves m) = passed
+lookSays (look.Refused number at) = refused number at
 
-abbrev pub LookedAs : List ℕ → ℕ → Looked → Type 0
-LookedAs b s r = r ≡ lookWhen (first (lookRows b s)) (movesOf b s)
+-- what an answer that isn't a refusal says of state s: its moves
+abbrev pub Shows : List ℕ → ℕ → Looked → Type 0
+Shows b s (look.Moves m) = m ≡ movesOf b s
+Shows b s (look.Refused number at) = Unit {0}
+
+pub record LookedAs (b : List ℕ) (s : ℕ) (r : Looked) : Type 0 where
+  pub refusal : lookSays r ≡ first (lookRows b s)
+  pub moves : Shows b s r

@@ -6,7 +6,7 @@ ghost use lib.ListN.{length};
 ghost use Rattle.layout.specs.Refusal.{first};
 ghost use Rattle.table.specs.Bytes.{pairAt, stateCount};
 ghost use Rattle.table.specs.Rows.{countRows, entryRows, entriesRows};
-ghost use Rattle.table.specs.Check.{answerWhen, CheckedAs, movesOf, lookWhen, LookedAs};
+ghost use Rattle.table.specs.Check.{says, Counts, CheckedAs, lookSays, Shows, LookedAs};
 
 // The most states that a table may have.
 pub const MOST_STATES: usize = 2048;
@@ -41,7 +41,7 @@ fn pair(bytes: &[u8], at: usize) -> u16
 
 // Tests 10, 11 and the counts in 12.
 fn test_counts(bytes: &[u8]) -> TableAnswer
-    ensures { λ r. ⌜ r ≡ answerWhen (first (countRows (now (bytes .entry)))) (stateCount (now (bytes .entry))) ⌝ }
+    ensures { λ r. ⌜ (says r ≡ first (countRows (now (bytes .entry)))) × Counts (now (bytes .entry)) r ⌝ }
 {
     let size = bytes.len();
     if size < 7 {
@@ -70,7 +70,7 @@ fn test_counts(bytes: &[u8]) -> TableAnswer
 // The entry of one state, tested.
 fn entry_of(bytes: &[u8], n: usize, state: usize) -> Looked
     requires { ⌜ (n ≡ stateCount (now bytes)) × (state < n) × (7 + 4 * n ≤ length (now bytes)) ⌝ }
-    ensures { λ r. ⌜ r ≡ lookWhen (first (entryRows (now (bytes .entry)) state)) (movesOf (now (bytes .entry)) state) ⌝ }
+    ensures { λ r. ⌜ (lookSays r ≡ first (entryRows (now (bytes .entry)) state)) × Shows (now (bytes .entry)) state r ⌝ }
 {
     let miss = pair(bytes, 7 + 4 * state);
     let hit = pair(bytes, 9 + 4 * state);
@@ -92,7 +92,7 @@ fn entry_of(bytes: &[u8], n: usize, state: usize) -> Looked
 // The entries of all states, first to last.
 fn test_entries(bytes: &[u8], n: usize) -> TableAnswer
     requires { ⌜ (n ≡ stateCount (now bytes)) × (7 + 4 * n ≤ length (now bytes)) ⌝ }
-    ensures { λ r. ⌜ r ≡ answerWhen (first (entriesRows (now (bytes .entry)) 0 n)) n ⌝ }
+    ensures { λ r. ⌜ (says r ≡ first (entriesRows (now (bytes .entry)) 0 n)) × Counts (now (bytes .entry)) r ⌝ }
 {
     let mut state = 0;
     while state < n {

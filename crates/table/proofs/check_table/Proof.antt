@@ -7,8 +7,8 @@ use borrow.Author.Needs.{needs}
 use Rattle.layout.specs.Refusal.{passed, first}
 use Rattle.table.specs.Bytes.{stateCount}
 use Rattle.table.specs.Rows.{countRows, entriesRows}
-use Rattle.table.specs.Check.{answerWhen}
-use Rattle.table.proofs.Answers.{states-passed, answer-refused}
+use Rattle.table.specs.Check.{says}
+use Rattle.table.proofs.Answers.{states-passed}
 use Rattle.table.proofs.Turns.{refused-before, passed-before}
 use Rattle.table.proofs.Checked.{passed-counts}
 use Rattle.table.proofs.check_table.Statement.{statement}
@@ -19,7 +19,7 @@ abbrev bytes : tie.After-known-told → List ℕ
 bytes c = c .before .before .before .before .before .args .bytes .now
 
 counts : (c : tie.After-known-told) → (first (countRows (bytes c)) ≡ passed) × (c .before .counts .given .0 .0 ≡ stateCount (bytes c))
-counts c = states-passed _ _ _ (sym (c .before .before .before .test-counts .ensures) ∙ c .before .counts .given .1)
+counts c = states-passed (bytes c) (c .before .before .before .test-counts .ensures) (c .before .counts .given .1)
 
 test-counts-requires : tie.Need-test-counts-requires
 test-counts-requires c κs = search needs
@@ -33,9 +33,9 @@ enum-told c = search needs
 returns : tie.Need-returns
 returns c =
     let b = c .before .before .before .before .args .bytes .now in
-    let e = c .enum-told .given .1 in
-    let r = answer-refused _ _ _ _ (sym (c .before .before .test-counts .ensures) ∙ e) in
-    e ∙ sym (ap (λ t. answerWhen t (stateCount b)) (refused-before (countRows b) (entriesRows b 0 (stateCount b)) r))
+    let t = c .before .before .test-counts in
+    let e = ap says (c .enum-told .given .1) in
+    record { refusal = e ∙ sym (refused-before (countRows b) (entriesRows b 0 (stateCount b)) (sym (t .ensures .0) ∙ e)); states = t .ensures .1 }
 
 test-entries-requires : tie.Need-test-entries-requires
 test-entries-requires c κs =
@@ -47,8 +47,11 @@ returns-2 : tie.Need-returns-2
 returns-2 c =
     let b = bytes (c .before) in
     let (p, e) = counts (c .before) in
-    c .test-entries .ensures ∙ ap (λ n. answerWhen (first (entriesRows b 0 n)) n) e
-    ∙ sym (ap (λ t. answerWhen t (stateCount b)) (passed-before (countRows b) (entriesRows b 0 (stateCount b)) p))
+    let t = c .test-entries in
+    record {
+      refusal = t .ensures .0 ∙ ap (λ n. first (entriesRows b 0 n)) e ∙ sym (passed-before (countRows b) (entriesRows b 0 (stateCount b)) p);
+      states = t .ensures .1;
+    }
 
 pub check-table-spec : {M : Type 1} → statement M
 check-table-spec =

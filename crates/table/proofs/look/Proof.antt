@@ -10,8 +10,8 @@ use Rattle.layout.specs.Refusal.{Tested, passed, row, first}
 use Rattle.layout.proofs.Rows.{first-here, first-skip}
 use Rattle.table.specs.Bytes.{stateCount}
 use Rattle.table.specs.Rows.{countRows, entryRows, lookRows}
-use Rattle.table.specs.Check.{movesOf, lookWhen}
-use Rattle.table.proofs.Answers.{states-passed, answer-refused}
+use Rattle.table.specs.Check.{says}
+use Rattle.table.proofs.Answers.{states-passed}
 use Rattle.table.proofs.Turns.{refused-before, passed-before}
 use Rattle.table.proofs.Checked.{passed-counts}
 use Rattle.table.proofs.look.Statement.{statement}
@@ -22,11 +22,11 @@ abbrev bytes : tie.After-known-told2 → List ℕ
 bytes c = c .before .before .before .before .before .args .bytes .now
 
 counts : (c : tie.After-known-told2) → (first (countRows (bytes c)) ≡ passed) × (c .before .counts2 .given .0 .0 ≡ stateCount (bytes c))
-counts c = states-passed _ _ _ (sym (c .before .before .before .test-counts .ensures) ∙ c .before .counts2 .given .1)
+counts c = states-passed (bytes c) (c .before .before .before .test-counts .ensures) (c .before .counts2 .given .1)
 
 -- what the rows of the state and its entry say is the answer
-rest-decides : (b : List ℕ) (s : ℕ) (t : Tested) → first (countRows b) ≡ passed → first (row 12 (leb (stateCount b) s) 0 ∷ entryRows b s) ≡ t → lookWhen t (movesOf b s) ≡ lookWhen (first (lookRows b s)) (movesOf b s)
-rest-decides b s t p e = sym (ap (λ z. lookWhen z (movesOf b s)) (passed-before (countRows b) (row 12 (leb (stateCount b) s) 0 ∷ entryRows b s) p ∙ e))
+rest-decides : (b : List ℕ) (s : ℕ) {t : Tested} → first (countRows b) ≡ passed → first (row 12 (leb (stateCount b) s) 0 ∷ entryRows b s) ≡ t → t ≡ first (lookRows b s)
+rest-decides b s p e = sym (passed-before (countRows b) (row 12 (leb (stateCount b) s) 0 ∷ entryRows b s) p ∙ e)
 
 test-counts-requires : tie.Need-test-counts-requires
 test-counts-requires c κs = search needs
@@ -42,7 +42,7 @@ returns c =
     let (p, e) = counts (c .before) in
     let b = bytes (c .before) in
     let s = c .before .before .before .before .before .before .args .state in
-    rest-decides b s _ p (first-here 12 0 _ _ (le-leb (stateCount b) s (omega arith)))
+    record { refusal = rest-decides b s p (first-here 12 0 _ _ (le-leb (stateCount b) s (omega arith))); moves = tt }
 
 entry-of-requires : tie.Need-entry-of-requires
 entry-of-requires c κs =
@@ -54,15 +54,16 @@ returns-2 : tie.Need-returns-2
 returns-2 c =
     let b = c .before .before .before .before .before .args .bytes .now in
     let s = c .before .before .before .before .before .args .state in
-    let r = answer-refused _ _ _ _ (sym (c .before .before .before .test-counts .ensures) ∙ c .before .counts .given .1) in
-    sym (ap (λ t. lookWhen t (movesOf b s)) (refused-before (countRows b) (row 12 (leb (stateCount b) s) 0 ∷ entryRows b s) r))
+    let r = sym (c .before .before .before .test-counts .ensures .0) ∙ ap says (c .before .counts .given .1) in
+    record { refusal = sym (refused-before (countRows b) (row 12 (leb (stateCount b) s) 0 ∷ entryRows b s) r); moves = tt }
 
 returns-3 : tie.Need-returns-3
 returns-3 c =
     let (p, e) = counts (c .before .before) in
     let b = bytes (c .before .before) in
     let s = c .before .before .before .before .before .before .before .args .state in
-    c .entry-of .ensures ∙ rest-decides b s _ p (first-skip 12 0 _ _ (lt-leb (stateCount b) s (omega arith)))
+    let (r, m) = c .entry-of .ensures in
+    record { refusal = r ∙ rest-decides b s p (first-skip 12 0 _ _ (lt-leb (stateCount b) s (omega arith))); moves = m }
 
 pub look-spec : {M : Type 1} → statement M
 look-spec =

@@ -6,8 +6,7 @@ use native.Mathlib.Omega.{arith}
 use borrow.Author.Needs.{needs}
 use Rattle.layout.specs.Refusal.{first}
 use Rattle.table.specs.Rows.{entriesRows}
-use Rattle.table.specs.Check.{answerWhen}
-use Rattle.table.proofs.Answers.{moves-passed, look-refused}
+use Rattle.table.specs.Check.{lookSays}
 use Rattle.table.proofs.Turns.{entries-refused, entries-go-on, entries-end}
 use Rattle.table.proofs.test_entries.Statement.{statement}
 use Rattle.table.proofs.test_entries.Tie as tie
@@ -34,8 +33,8 @@ returns c =
     let l = c .before .before .before .before .before in
     let a = l .before .before .args in
     let b = a .bytes .now in
-    let r = look-refused _ _ _ _ (sym (e .ensures) ∙ c .before .entry .given .1) in
-    sym (ap (λ t. answerWhen t (a .n)) (l .loop .inv .1 ∙ entries-refused b (a .n) (l .loop .state) (omega arith) r))
+    let r = sym (e .ensures .0) ∙ ap lookSays (c .before .entry .given .1) in
+    (sym (l .loop .inv .1 ∙ entries-refused b (a .n) (l .loop .state) (omega arith) r), tt)
 
 enum-told : tie.Need-enum-told Inv-loop μ-loop
 enum-told c = search needs
@@ -52,14 +51,14 @@ loop-again c =
     let l = c .before .before .before .before in
     let a = l .before .before .args in
     let b = a .bytes .now in
-    let r = moves-passed _ _ _ (sym (e .ensures) ∙ c .enum-told .given .1) .0 in
+    let r = sym (e .ensures .0) ∙ ap lookSays (c .enum-told .given .1) in
     (omega arith, l .loop .inv .1 ∙ entries-go-on b (a .n) (l .loop .state) (omega arith) r)
 
 returns-2 : tie.Need-returns-2 Inv-loop μ-loop
 returns-2 c =
     let l = c .before in
     let a = l .before .before .args in
-    sym (ap (λ t. answerWhen t (a .n)) (l .loop .inv .1 ∙ entries-end (a .bytes .now) (a .n) (l .loop .state) (omega arith)))
+    (sym (l .loop .inv .1 ∙ entries-end (a .bytes .now) (a .n) (l .loop .state) (omega arith)), l .before .before .pre .0)
 
 pub test-entries-spec : {M : Type 1} → statement M
 test-entries-spec =

@@ -5,7 +5,7 @@ use Prim.Native.Nat.{ℕ}
 use borrow.Author.Tests.{lt-ltb, le-ltb}
 use lib.Dec.{ltb}
 use borrow.Author.Needs.{needs}
-use Rattle.table.specs.Shared.{row, Tested, passed, first, outcome}
+use Rattle.table.specs.Shared.{row, passed, first, outcome}
 use Rattle.table.specs.Bytes.{machineOf}
 use Rattle.table.specs.Rows.{lookRows}
 use Rattle.table.specs.Check.{moveBy}
@@ -13,15 +13,16 @@ use Rattle.table.proofs.Shared.{first-here, first-skip}
 use Rattle.table.proofs.Turns.{refused-before, passed-before}
 use Rattle.table.proofs.Answers.{looked-moves, looked-refused, moves-are-next}
 use Rattle.guard.specs.declared.Guard.{Guard}
-use Rattle.guard.specs.declared.Told.{Told}
+use Rattle.guard.specs.declared.TellAnswer.{TellAnswer}
 use Rattle.guard.specs.declared.TellAnswer.the-variants as tell
-use Rattle.guard.specs.Guard.{afterBy, tellRows, toldWhen, toldOf}
+use Rattle.guard.specs.Guard.{afterBy, tellRows, tellSays, toldWhen, ToldAs}
 use Rattle.guard.proofs.Guard.tell.Statement.{statement}
 use Rattle.guard.proofs.Guard.tell.Tie as tie
 
 module _ (b : List ℕ) (g : Guard) (byte : ℕ) where
-  decided : (t : Tested) → first (tellRows b g byte) ≡ t → toldWhen t (machineOf b) g (outcome byte) ≡ toldOf b g byte
-  decided t e = sym (ap (λ z. toldWhen z (machineOf b) g (outcome byte)) e)
+  -- the guard beside an answer is the one that its number calls for
+  decided : (a : TellAnswer) → first (tellRows b g byte) ≡ tellSays a → ToldAs b g byte (record { answer = a; guard = toldWhen (tellSays a) (machineOf b) g (outcome byte) })
+  decided a e = record { refusal = sym e; guard = sym (ap (λ t. toldWhen t (machineOf b) g (outcome byte)) e) }
 
   -- where looking was passed, 13 is left
   looked : first (lookRows b (g .state)) ≡ passed → first (tellRows b g byte) ≡ first (row 13 (ltb 1 byte) 0 ∷ [])
@@ -40,7 +41,7 @@ returns : tie.Need-returns
 returns c =
     let a = c .before .before .before .before .before .before .args in
     let (p, e) = looked-moves (a .table .now) (a .self .state) (c .before .before .before .before .look .ensures) (c .before .before .looked2 .given .1) in
-    decided (a .table .now) (a .self) (a .outcome) _
+    decided (a .table .now) (a .self) (a .outcome) (tell.Refused 13 0)
     (looked (a .table .now) (a .self) (a .outcome) p ∙ first-here 13 0 _ _ (lt-ltb _ _ (c .if1 .taken)))
 
 moved-requires : tie.Need-moved-requires
@@ -50,7 +51,7 @@ returns-2 : tie.Need-returns-2
 returns-2 c =
     let a = c .before .before .before .before .before .args in
     let r = looked-refused (a .table .now) (a .self .state) (c .before .before .before .look .ensures) (c .before .looked .given .1) in
-    decided (a .table .now) (a .self) (a .outcome) _ (refused-before _ _ r)
+    decided (a .table .now) (a .self) (a .outcome) (tell.Refused _ _) (refused-before _ _ r)
 
 returns-3 : tie.Need-returns-3
 unfolding first
@@ -60,8 +61,8 @@ returns-3 c =
     let o = outcome (a .outcome) in
     let (p, e) = looked-moves b (a .self .state) (c .before .before .before .before .before .look .ensures) (c .before .before .before .looked2 .given .1) in
     let f = c .moved .ensures ∙ ap (λ m. afterBy (moveBy m o) (a .self)) e ∙ ap (λ n. afterBy n (a .self)) (moves-are-next b (a .self .state) o) in
-    ap {B = Told} (λ x. record { answer = tell.Told; guard = x }) f
-    ∙ decided b (a .self) (a .outcome) passed (looked b (a .self) (a .outcome) p ∙ first-skip 13 0 (ltb 1 (a .outcome)) [] (le-ltb _ _ (c .before .if1 .left)))
+    let d = decided b (a .self) (a .outcome) tell.Told (looked b (a .self) (a .outcome) p ∙ first-skip 13 0 (ltb 1 (a .outcome)) [] (le-ltb _ _ (c .before .if1 .left))) in
+    record { refusal = d .refusal; guard = f ∙ d .guard }
 
 pub tell-spec : {M : Type 1} → statement M
 tell-spec =

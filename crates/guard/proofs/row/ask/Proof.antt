@@ -1,7 +1,7 @@
 -- `row::ask` meets its contract: a walk of its MIR, by hand. Where `refuses` says so, the refusal is returned; else the row is looked into, the job's guard is copied out and passed to `Guard::ask`, and the answer is returned.
 -- All that the proof knows of `refuses` and `Guard::ask` is that each meets its contract; what the answer then is, is `RowCalls`.
 -- Assumes nothing.
-use mathlib.Core.Path.{_≡_, refl, sym, ap, _∙_}
+use mathlib.Core.Path.{refl, sym, ap, _∙_}
 use mathlib.Core.List.{[], _∷_, List}
 use Prim.Native.Nat.{ℕ, _<_, _^_, _*_}
 use native.Mathlib.Omega.{arith}
@@ -45,8 +45,8 @@ use Rattle.guard.specs.declared.Guard.{Guard}
 use Rattle.guard.specs.declared.Asked.{Asked}
 use Rattle.guard.specs.declared.AskAnswer.{AskAnswer}
 use Rattle.guard.specs.declared.AskAnswer.the-variants as answers
-use Rattle.guard.specs.Guard.{fresh, askedOf}
-use Rattle.guard.specs.Row.{mostGuards, guardAt, rowAskedOf}
+use Rattle.guard.specs.Guard.{fresh, AskedAs}
+use Rattle.guard.specs.Row.{mostGuards, guardAt, RowAskedAs}
 use Rattle.guard.proofs.RowCalls.{ask-outside, ask-inside}
 use Rattle.guard.proofs.row.Walk.{at-places, is-true, is-false, Refuses, asks-refuses}
 use Rattle.guard.proofs.Guard as G
@@ -116,7 +116,7 @@ module _ {M : Type 1} (𝓤 : URA M) (H : Heap 𝓤) (A : Atoms 𝓤) (W : Given
   abbrev Post : Val → SProp 𝓤
   Post = walkOf 𝓤 H A ask.ended stayed (ask.clauses 𝓤 H A mem run) .post bound
 
-  exits : (r : AskAnswer) (m : Val) → Is S.the-row r (m ∷ []) → r ≡ rowAskedOf ys job (table .now) → ent 𝓤 (⋆ 𝓤 H A (‵ Row ∷ ‵ (flft κ q) ∷ ‵ (flft κ′ q′) ∷ ‵ Table ∷ [])) (Post m)
+  exits : (r : AskAnswer) (m : Val) → Is S.the-row r (m ∷ []) → RowAskedAs ys job (table .now) r → ent 𝓤 (⋆ 𝓤 H A (‵ Row ∷ ‵ (flft κ q) ∷ ‵ (flft κ′ q′) ∷ ‵ Table ∷ [])) (Post m)
   exits r m is said =
       qed W (‵ Row ∷ ‵ (flft κ q) ∷ ‵ (flft κ′ q′) ∷ ‵ Table ∷ []) ∵
       suffices ! _ (ends-at 𝓤 H A ask.ended stayed (ask.clauses 𝓤 H A mem run) W bound m r (tt, (tt, (tt, tt))) (tt, (tt, (tt, tt)))) $ says ! said $
@@ -137,8 +137,8 @@ module _ {M : Type 1} (𝓤 : URA M) (H : Heap 𝓤) (A : Atoms 𝓤) (W : Given
       use2 W (raw (One 𝓤 H A mem run .pre to-one)) (qed W ((‵ (flft κ′ q′) ⊛ ‵ ftrue) ∷ ‵ (owns (G.the-row ∷ ShrSlice (named 0) κ′ u8 ∷ []) (elem, (table, tt)) (LL.vals G.the-type G′.the-laws elem, (t ∷ [], tt))) ∷ []) ∵ join ! $ frame ! $ done !) $ frame ! $ done !
 
   -- of its `ensured`, the clause alone
-  one-says : (r : Asked) → ent 𝓤 (ensured 𝓤 H A one.ended (one.clauses 𝓤 H A mem run) (κ′, tt) (elem, (table, tt)) tt r) (fact 𝓤 (r ≡ askedOf (table .now) elem))
-  one-says r = exE 𝓤 _ (λ ws. snd∗ 𝓤 (sem 𝓤 H A (lasts one.ended (κ′, tt) (elem, (table, tt)) ws)) (fact 𝓤 (r ≡ askedOf (table .now) elem)))
+  one-says : (r : Asked) → ent 𝓤 (ensured 𝓤 H A one.ended (one.clauses 𝓤 H A mem run) (κ′, tt) (elem, (table, tt)) tt r) (fact 𝓤 (AskedAs (table .now) elem r))
+  one-says r = exE 𝓤 _ (λ ws. snd∗ 𝓤 (sem 𝓤 H A (lasts one.ended (κ′, tt) (elem, (table, tt)) ws)) (fact 𝓤 (AskedAs (table .now) elem r)))
 
   module _ (C : Calls 𝓤 H) (Λ : Loops 𝓤 H) (fm : FmC 𝓤 H (W .laws) C) (known-refuses : Triple 𝓤 (C #guard·row·refuses) (Refuses 𝓤 H A mem run)) (known-one : Triple 𝓤 (C #guard·Guard·ask) (One 𝓤 H A mem run)) where
     walk : ent 𝓤 (onEntry 𝓤 H A ask.signature (κ, (κ′, tt)) (q, (q′, tt)) a vals) (WpFn 𝓤 H C Λ code.function (s ∷ vint w64 job ∷ t ∷ []) Post)
@@ -158,7 +158,7 @@ module _ {M : Type 1} (𝓤 : URA M) (H : Heap 𝓤) (A : Atoms 𝓤) (W : Given
         assigns ! (agg ! (and-then ! (lit ! tt) (and-then ! (lit ! tt) (and-then ! (lit ! tt) (no-more !))))) (from ! (stop !)) (init ! 16 refl (EL.lawful S.the-type S′.the-laws 𝓤 H A W tt .typed (answers.Refused 14 0) _ is-14 .0)) $
         returns-within ! Post refl (look ! 16 refl) $ forget ! 4 refl $ forget ! 6 refl $ forget ! 10 refl $ forget ! 12 refl $ forget ! 14 refl $ forget ! 16 refl $
         move ! (16 ∷ 17 ∷ []) $ free1 ! $ move ! (14 ∷ 15 ∷ []) $ free1 ! $ move ! (12 ∷ 13 ∷ []) $ free1 ! $ move ! (10 ∷ 11 ∷ []) $ free1 ! $ move ! (8 ∷ 9 ∷ []) $ free1 ! $ move ! (6 ∷ 7 ∷ []) $ free1 ! $ move ! (4 ∷ 5 ∷ []) $ free1 ! $ move ! (2 ∷ 3 ∷ []) $ free1 ! $ free1 ! $ free0 ! $
-        by ! (exits (answers.Refused 14 0) _ is-14 (sym (ask-outside ys job (table .now) (sym (refusing .0) ∙ is-true r out)))))
+        by ! (exits (answers.Refused 14 0) _ is-14 (ask-outside ys job (table .now) (sym (refusing .0) ∙ is-true r out))))
         (λ inside.
         let within : (job < length ys) × (job < mostGuards) = refusing .1 (is-false r inside) in
         let offset-fits : job * 4 < 2 ^ 64 = omega (arith, within .1) in
@@ -177,7 +177,7 @@ module _ {M : Type 1} (𝓤 : URA M) (H : Heap 𝓤) (A : Atoms 𝓤) (W : Given
         move ! (23 ∷ 24 ∷ []) $ use2 W (raw (One 𝓤 H A mem run .pre to-one) ⊛ ‵ Table) (goes-one is-elem) $ split ! $
         calls-at ! fm (One 𝓤 H A mem run) known-one to-one (and-then ! (load ! (from ! (stop !)) (look ! 7 refl)) (and-then ! (load ! (from ! (stop !)) (look ! 17 refl)) (no-more !))) (λ u.
         use1 W (later (some (λ (d : Asked). ((‵ (flft κ′ q′) ⊛ ‵ ftrue) ⊛ ‵ (D.the-row .own d (u ∷ []))) ⊛ raw (ensured 𝓤 H A one.ended (one.clauses 𝓤 H A mem run) (κ′, tt) (elem, (table, tt)) tt d)))) (id⊢ 𝓤 _) $ await ! tt $ pick ! (λ d.
-        split ! $ move ! (1 ∷ []) $ use1 W (raw (fact 𝓤 (d ≡ askedOf (table .now) elem))) (one-says d) $ heard ! (d ≡ askedOf (table .now) elem) (λ asked. split ! $ move ! (1 ∷ []) $
+        split ! $ move ! (1 ∷ []) $ use1 W (raw (fact 𝓤 (AskedAs (table .now) elem d))) (one-says d) $ heard ! (AskedAs (table .now) elem d) (λ asked. split ! $ move ! (1 ∷ []) $
         peeks ! D.the-row (Is D.the-row) (shows 𝓤 H A D.the-row) d (u ∷ []) (λ is-asked.
         let fields = LL.owed D.the-type D′.the-laws d _ is-asked in
         land ! (from ! (stop !)) (init ! 16 refl (LL.lawful D.the-type D′.the-laws 𝓤 H A W .typed d _ is-asked .0)) $ drop ! $ split ! $
@@ -186,7 +186,7 @@ module _ {M : Type 1} (𝓤 : URA M) (H : Heap 𝓤) (A : Atoms 𝓤) (W : Given
         assigns ! (of-opd ! (load ! (from ! (fld ! refl (stop !))) (look-in ! 16 (sub ! 0 refl (whole !))))) (from ! (stop !)) (init ! 24 refl (EL.lawful S.the-type S′.the-laws 𝓤 H A W tt .typed (d .answer) _ (fields .0) .0)) $
         returns ! (look ! 24 refl) $ forget ! 8 refl $ forget ! 10 refl $ forget ! 12 refl $ forget ! 14 refl $ forget ! 16 refl $ forget ! 18 refl $ forget ! 20 refl $ forget ! 22 refl $ forget ! 24 refl $
         move ! (24 ∷ 25 ∷ []) $ free1 ! $ move ! (22 ∷ 23 ∷ []) $ free1 ! $ move ! (20 ∷ 21 ∷ []) $ free1 ! $ move ! (18 ∷ 19 ∷ []) $ free1 ! $ move ! (16 ∷ 17 ∷ []) $ free1 ! $ move ! (14 ∷ 15 ∷ []) $ free1 ! $ move ! (12 ∷ 13 ∷ []) $ free1 ! $ move ! (10 ∷ 11 ∷ []) $ free1 ! $ move ! (8 ∷ 9 ∷ []) $ free1 ! $ free0 ! $
-        keep ! (7 ∷ 3 ∷ 0 ∷ 2 ∷ []) $ by ! (exits (d .answer) _ (fields .0) (ap (λ z. z .answer) asked ∙ sym (ask-inside ys job (table .now) (sym (refusing .0) ∙ is-false r inside)))))))))))))))))))))
+        keep ! (7 ∷ 3 ∷ 0 ∷ 2 ∷ []) $ by ! (exits (d .answer) _ (fields .0) (ask-inside ys job (table .now) (sym (refusing .0) ∙ is-false r inside) d asked)))))))))))))))))))
 
 ask-meets : {M : Type 1} (𝓤 : URA M) (H : Heap 𝓤) (A : Atoms 𝓤) → Given 𝓤 H A → (mem : Memory → SProp 𝓤) (run : Routine → Fun 𝓤) (𝓣 : Tables 𝓤 H)
     → Triple 𝓤 (𝓣 .C #guard·row·refuses) (Refuses 𝓤 H A mem run) → Triple 𝓤 (𝓣 .C #guard·Guard·ask) (One 𝓤 H A mem run)

@@ -48,7 +48,7 @@ use Rattle.guard.specs.declared.Started.{Started}
 use Rattle.guard.specs.declared.StartAnswer.{StartAnswer}
 use Rattle.guard.specs.declared.StartAnswer.the-variants as answers
 use Rattle.guard.specs.Guard.{fresh}
-use Rattle.guard.specs.Row.{mostGuards, guardAt, anewOf, rowStartedOf}
+use Rattle.guard.specs.Row.{mostGuards, guardAt, AnewAs, RowStartedAs}
 use Rattle.guard.proofs.RowCalls.{start-outside, start-inside}
 use Rattle.guard.proofs.row.Walk.{at-places, is-true, is-false, Refuses, asks-refuses}
 use Rattle.guard.proofs.Guard as G
@@ -116,7 +116,7 @@ module _ {M : Type 1} (𝓤 : URA M) (H : Heap 𝓤) (A : Atoms 𝓤) (W : Given
   abbrev Post : Val → SProp 𝓤
   Post = walkOf 𝓤 H A start.ended stayed (start.clauses 𝓤 H A mem run) .post bound
 
-  exits : (r : StartAnswer) (m : Val) (zs : List Guard) → Is S.the-row r (m ∷ []) → (r, zs) ≡ rowStartedOf ys job (table .now) → length zs ≡ length ys
+  exits : (r : StartAnswer) (m : Val) (zs : List Guard) → Is S.the-row r (m ∷ []) → RowStartedAs ys job (table .now) r zs → length zs ≡ length ys
       → ent 𝓤 (⋆ 𝓤 H A (‵ (fobs γ (codedHoleys G.the-row .code (heres G.the-row zs))) ∷ ‵ (fbor κ (Held G.the-row (length zs) b o γ)) ∷ ‵ (flft κ q) ∷ ‵ (flft κ′ q′) ∷ ‵ Table ∷ [])) (Post m)
   exits r m zs is said same =
       qed W (‵ (fobs γ (codedHoleys G.the-row .code (heres G.the-row zs))) ∷ ‵ (fbor κ (Held G.the-row (length zs) b o γ)) ∷ ‵ (flft κ q) ∷ ‵ (flft κ′ q′) ∷ ‵ Table ∷ []) ∵
@@ -140,8 +140,8 @@ module _ {M : Type 1} (𝓤 : URA M) (H : Heap 𝓤) (A : Atoms 𝓤) (W : Given
       use2 W (raw (One 𝓤 H A mem run .pre to-one)) (qed W ((‵ (flft κ′ q′) ⊛ ‵ ftrue) ∷ ‵ (owns (G.the-row ∷ ShrSlice (named 0) κ′ u8 ∷ []) (elem, (table, tt)) (LL.vals G.the-type G′.the-laws elem, (t ∷ [], tt))) ∷ []) ∵ join ! $ frame ! $ done !) $ frame ! $ done !
 
   -- of its `ensured`, the clause alone
-  one-says : (r : Started) → ent 𝓤 (ensured 𝓤 H A one.ended (one.clauses 𝓤 H A mem run) (κ′, tt) (elem, (table, tt)) tt r) (fact 𝓤 (r ≡ anewOf (table .now) elem))
-  one-says r = exE 𝓤 _ (λ ws. snd∗ 𝓤 (sem 𝓤 H A (lasts one.ended (κ′, tt) (elem, (table, tt)) ws)) (fact 𝓤 (r ≡ anewOf (table .now) elem)))
+  one-says : (r : Started) → ent 𝓤 (ensured 𝓤 H A one.ended (one.clauses 𝓤 H A mem run) (κ′, tt) (elem, (table, tt)) tt r) (fact 𝓤 (AnewAs (table .now) elem r))
+  one-says r = exE 𝓤 _ (λ ws. snd∗ 𝓤 (sem 𝓤 H A (lasts one.ended (κ′, tt) (elem, (table, tt)) ws)) (fact 𝓤 (AnewAs (table .now) elem r)))
 
   module _ (C : Calls 𝓤 H) (Λ : Loops 𝓤 H) (fm : FmC 𝓤 H (W .laws) C) (known-refuses : Triple 𝓤 (C #guard·row·refuses) (Refuses 𝓤 H A mem run)) (known-one : Triple 𝓤 (C #guard·Guard·anew) (One 𝓤 H A mem run)) where
     walk : ent 𝓤 (onEntry 𝓤 H A start.signature (κ, (κ′, tt)) (q, (q′, tt)) a vals) (WpFn 𝓤 H C Λ code.function (s ∷ vint w64 job ∷ t ∷ []) Post)
@@ -161,7 +161,7 @@ module _ {M : Type 1} (𝓤 : URA M) (H : Heap 𝓤) (A : Atoms 𝓤) (W : Given
         assigns ! (agg ! (and-then ! (lit ! tt) (and-then ! (lit ! tt) (and-then ! (lit ! tt) (no-more !))))) (from ! (stop !)) (init ! 18 refl (EL.lawful S.the-type S′.the-laws 𝓤 H A W tt .typed (answers.Refused 14 0) _ is-14 .0)) $
         returns-within ! Post refl (look ! 18 refl) $ forget ! 6 refl $ forget ! 8 refl $ forget ! 12 refl $ forget ! 14 refl $ forget ! 16 refl $ forget ! 18 refl $
         move ! (18 ∷ 19 ∷ []) $ free1 ! $ move ! (16 ∷ 17 ∷ []) $ free1 ! $ move ! (14 ∷ 15 ∷ []) $ free1 ! $ move ! (12 ∷ 13 ∷ []) $ free1 ! $ move ! (10 ∷ 11 ∷ []) $ free1 ! $ move ! (8 ∷ 9 ∷ []) $ free1 ! $ move ! (6 ∷ 7 ∷ []) $ free1 ! $ move ! (4 ∷ 5 ∷ []) $ free1 ! $ move ! (2 ∷ 3 ∷ []) $ free1 ! $ free1 ! $ free0 ! $
-        by ! (exits (answers.Refused 14 0) _ ys is-14 (sym (start-outside ys job (table .now) (sym (refusing .0) ∙ is-true r out))) refl))
+        by ! (exits (answers.Refused 14 0) _ ys is-14 (start-outside ys job (table .now) (sym (refusing .0) ∙ is-true r out)) refl))
         (λ inside.
         let within : (job < length ys) × (job < mostGuards) = refusing .1 (is-false r inside) in
         let offset-fits : job * 4 < 2 ^ 64 = omega (arith, within .1) in
@@ -177,7 +177,7 @@ module _ {M : Type 1} (𝓤 : URA M) (H : Heap 𝓤) (A : Atoms 𝓤) (W : Given
         move ! (26 ∷ 27 ∷ []) $ use2 W (raw (One 𝓤 H A mem run .pre to-one) ⊛ ‵ Table) (goes-one is-elem) $ split ! $
         calls-at ! fm (One 𝓤 H A mem run) known-one to-one (and-then ! (load ! (from ! (stop !)) (look ! 10 refl)) (and-then ! (load ! (from ! (stop !)) (look ! 20 refl)) (no-more !))) (λ u.
         use1 W (later (some (λ (d : Started). ((‵ (flft κ′ q′) ⊛ ‵ ftrue) ⊛ ‵ (D.the-row .own d (u ∷ []))) ⊛ raw (ensured 𝓤 H A one.ended (one.clauses 𝓤 H A mem run) (κ′, tt) (elem, (table, tt)) tt d)))) (id⊢ 𝓤 _) $ await ! tt $ pick ! (λ d.
-        split ! $ move ! (1 ∷ []) $ use1 W (raw (fact 𝓤 (d ≡ anewOf (table .now) elem))) (one-says d) $ heard ! (d ≡ anewOf (table .now) elem) (λ anew. split ! $ move ! (1 ∷ []) $
+        split ! $ move ! (1 ∷ []) $ use1 W (raw (fact 𝓤 (AnewAs (table .now) elem d))) (one-says d) $ heard ! (AnewAs (table .now) elem d) (λ anew. split ! $ move ! (1 ∷ []) $
         peeks ! D.the-row (Is D.the-row) (shows 𝓤 H A D.the-row) d (u ∷ []) (λ is-anew.
         let fields = LL.owed D.the-type D′.the-laws d _ is-anew in
         land ! (from ! (stop !)) (init ! 19 refl (LL.lawful D.the-type D′.the-laws 𝓤 H A W .typed d _ is-anew .0)) $ drop ! $ split ! $
@@ -195,7 +195,7 @@ module _ {M : Type 1} (𝓤 : URA M) (H : Heap 𝓤) (A : Atoms 𝓤) (W : Given
         returns ! (look ! 24 refl) $ forget ! 6 refl $ forget ! 8 refl $ forget ! 10 refl $ forget ! 12 refl $ forget ! 14 refl $ forget ! 16 refl $ forget ! 18 refl $ forget ! 20 refl $ forget ! 22 refl $ forget ! 24 refl $
         move ! (24 ∷ 25 ∷ []) $ free1 ! $ move ! (22 ∷ 23 ∷ []) $ free1 ! $ move ! (20 ∷ 21 ∷ []) $ free1 ! $ move ! (18 ∷ 19 ∷ []) $ free1 ! $ move ! (16 ∷ 17 ∷ []) $ free1 ! $ move ! (14 ∷ 15 ∷ []) $ free1 ! $ move ! (12 ∷ 13 ∷ []) $ free1 ! $ move ! (10 ∷ 11 ∷ []) $ free1 ! $ move ! (8 ∷ 9 ∷ []) $ free1 ! $ move ! (6 ∷ 7 ∷ []) $ free1 ! $ free0 ! $
         keep ! (0 ∷ 1 ∷ 2 ∷ 3 ∷ 5 ∷ []) $ by ! (exits (d .answer) _ (set ys job (d .guard)) (fields .0)
-        (ap {B = StartAnswer × List Guard} (λ z. (z .answer, set ys job (z .guard))) anew ∙ sym (start-inside ys job (table .now) (sym (refusing .0) ∙ is-false r inside))) (length-set ys job (d .guard))))))))))))))))))))
+        (start-inside ys job (table .now) (sym (refusing .0) ∙ is-false r inside) d anew) (length-set ys job (d .guard))))))))))))))))))))
 
 start-meets : {M : Type 1} (𝓤 : URA M) (H : Heap 𝓤) (A : Atoms 𝓤) → Given 𝓤 H A → (mem : Memory → SProp 𝓤) (run : Routine → Fun 𝓤) (𝓣 : Tables 𝓤 H)
     → Triple 𝓤 (𝓣 .C #guard·row·refuses) (Refuses 𝓤 H A mem run) → Triple 𝓤 (𝓣 .C #guard·Guard·anew) (One 𝓤 H A mem run)

@@ -47,8 +47,8 @@ use Rattle.guard.specs.declared.Guard.{Guard}
 use Rattle.guard.specs.declared.Told.{Told}
 use Rattle.guard.specs.declared.TellAnswer.{TellAnswer}
 use Rattle.guard.specs.declared.TellAnswer.the-variants as answers
-use Rattle.guard.specs.Guard.{fresh, toldOf}
-use Rattle.guard.specs.Row.{mostGuards, guardAt, rowToldOf}
+use Rattle.guard.specs.Guard.{fresh, ToldAs}
+use Rattle.guard.specs.Row.{mostGuards, guardAt, RowToldAs}
 use Rattle.guard.proofs.RowCalls.{tell-outside, tell-inside}
 use Rattle.guard.proofs.row.Walk.{at-places, is-true, is-false, Refuses, asks-refuses}
 use Rattle.guard.proofs.Guard as G
@@ -116,7 +116,7 @@ module _ {M : Type 1} (𝓤 : URA M) (H : Heap 𝓤) (A : Atoms 𝓤) (W : Given
   abbrev Post : Val → SProp 𝓤
   Post = walkOf 𝓤 H A tell.ended stayed (tell.clauses 𝓤 H A mem run) .post bound
 
-  exits : (r : TellAnswer) (m : Val) (zs : List Guard) → Is S.the-row r (m ∷ []) → (r, zs) ≡ rowToldOf ys job (table .now) byte → length zs ≡ length ys
+  exits : (r : TellAnswer) (m : Val) (zs : List Guard) → Is S.the-row r (m ∷ []) → RowToldAs ys job (table .now) byte r zs → length zs ≡ length ys
       → ent 𝓤 (⋆ 𝓤 H A (‵ (fobs γ (codedHoleys G.the-row .code (heres G.the-row zs))) ∷ ‵ (fbor κ (Held G.the-row (length zs) b o γ)) ∷ ‵ (flft κ q) ∷ ‵ (flft κ′ q′) ∷ ‵ Table ∷ [])) (Post m)
   exits r m zs is said same =
       qed W (‵ (fobs γ (codedHoleys G.the-row .code (heres G.the-row zs))) ∷ ‵ (fbor κ (Held G.the-row (length zs) b o γ)) ∷ ‵ (flft κ q) ∷ ‵ (flft κ′ q′) ∷ ‵ Table ∷ []) ∵
@@ -140,8 +140,8 @@ module _ {M : Type 1} (𝓤 : URA M) (H : Heap 𝓤) (A : Atoms 𝓤) (W : Given
       use2 W (raw (One 𝓤 H A mem run .pre to-one)) (qed W ((‵ (flft κ′ q′) ⊛ ‵ ftrue) ∷ ‵ (owns (G.the-row ∷ ShrSlice (named 0) κ′ u8 ∷ u8 ∷ []) (elem, (table, (byte, tt))) (LL.vals G.the-type G′.the-laws elem, (t ∷ [], (vint w8 byte ∷ [], tt)))) ∷ []) ∵ join ! $ frame ! $ done !) $ frame ! $ done !
 
   -- of its `ensured`, the clause alone
-  one-says : (r : Told) → ent 𝓤 (ensured 𝓤 H A one.ended (one.clauses 𝓤 H A mem run) (κ′, tt) (elem, (table, (byte, tt))) tt r) (fact 𝓤 (r ≡ toldOf (table .now) elem byte))
-  one-says r = exE 𝓤 _ (λ ws. snd∗ 𝓤 (sem 𝓤 H A (lasts one.ended (κ′, tt) (elem, (table, (byte, tt))) ws)) (fact 𝓤 (r ≡ toldOf (table .now) elem byte)))
+  one-says : (r : Told) → ent 𝓤 (ensured 𝓤 H A one.ended (one.clauses 𝓤 H A mem run) (κ′, tt) (elem, (table, (byte, tt))) tt r) (fact 𝓤 (ToldAs (table .now) elem byte r))
+  one-says r = exE 𝓤 _ (λ ws. snd∗ 𝓤 (sem 𝓤 H A (lasts one.ended (κ′, tt) (elem, (table, (byte, tt))) ws)) (fact 𝓤 (ToldAs (table .now) elem byte r)))
 
   module _ (C : Calls 𝓤 H) (Λ : Loops 𝓤 H) (fm : FmC 𝓤 H (W .laws) C) (known-refuses : Triple 𝓤 (C #guard·row·refuses) (Refuses 𝓤 H A mem run)) (known-one : Triple 𝓤 (C #guard·Guard·tell) (One 𝓤 H A mem run)) where
     walk : ent 𝓤 (onEntry 𝓤 H A tell.signature (κ, (κ′, tt)) (q, (q′, tt)) a vals) (WpFn 𝓤 H C Λ code.function (s ∷ vint w64 job ∷ t ∷ vint w8 byte ∷ []) Post)
@@ -161,7 +161,7 @@ module _ {M : Type 1} (𝓤 : URA M) (H : Heap 𝓤) (A : Atoms 𝓤) (W : Given
         assigns ! (agg ! (and-then ! (lit ! tt) (and-then ! (lit ! tt) (and-then ! (lit ! tt) (no-more !))))) (from ! (stop !)) (init ! 20 refl (EL.lawful S.the-type S′.the-laws 𝓤 H A W tt .typed (answers.Refused 14 0) _ is-14 .0)) $
         returns-within ! Post refl (look ! 20 refl) $ forget ! 6 refl $ forget ! 8 refl $ forget ! 12 refl $ forget ! 14 refl $ forget ! 16 refl $ forget ! 18 refl $ forget ! 20 refl $
         move ! (20 ∷ 21 ∷ []) $ free1 ! $ move ! (18 ∷ 19 ∷ []) $ free1 ! $ move ! (16 ∷ 17 ∷ []) $ free1 ! $ move ! (14 ∷ 15 ∷ []) $ free1 ! $ move ! (12 ∷ 13 ∷ []) $ free1 ! $ move ! (10 ∷ 11 ∷ []) $ free1 ! $ move ! (8 ∷ 9 ∷ []) $ free1 ! $ move ! (6 ∷ 7 ∷ []) $ free1 ! $ move ! (4 ∷ 5 ∷ []) $ free1 ! $ move ! (2 ∷ 3 ∷ []) $ free1 ! $ free1 ! $ free0 ! $
-        by ! (exits (answers.Refused 14 0) _ ys is-14 (sym (tell-outside ys job (table .now) (sym (refusing .0) ∙ is-true r out) byte)) refl))
+        by ! (exits (answers.Refused 14 0) _ ys is-14 (tell-outside ys job (table .now) (sym (refusing .0) ∙ is-true r out) byte) refl))
         (λ inside.
         let within : (job < length ys) × (job < mostGuards) = refusing .1 (is-false r inside) in
         let offset-fits : job * 4 < 2 ^ 64 = omega (arith, within .1) in
@@ -177,7 +177,7 @@ module _ {M : Type 1} (𝓤 : URA M) (H : Heap 𝓤) (A : Atoms 𝓤) (W : Given
         move ! (28 ∷ 29 ∷ []) $ use2 W (raw (One 𝓤 H A mem run .pre to-one) ⊛ ‵ Table) (goes-one is-elem) $ split ! $
         calls-at ! fm (One 𝓤 H A mem run) known-one to-one (and-then ! (load ! (from ! (stop !)) (look ! 10 refl)) (and-then ! (load ! (from ! (stop !)) (look ! 22 refl)) (and-then ! (load ! (from ! (stop !)) (look ! 20 refl)) (no-more !)))) (λ u.
         use1 W (later (some (λ (d : Told). ((‵ (flft κ′ q′) ⊛ ‵ ftrue) ⊛ ‵ (D.the-row .own d (u ∷ []))) ⊛ raw (ensured 𝓤 H A one.ended (one.clauses 𝓤 H A mem run) (κ′, tt) (elem, (table, (byte, tt))) tt d)))) (id⊢ 𝓤 _) $ await ! tt $ pick ! (λ d.
-        split ! $ move ! (1 ∷ []) $ use1 W (raw (fact 𝓤 (d ≡ toldOf (table .now) elem byte))) (one-says d) $ heard ! (d ≡ toldOf (table .now) elem byte) (λ told. split ! $ move ! (1 ∷ []) $
+        split ! $ move ! (1 ∷ []) $ use1 W (raw (fact 𝓤 (ToldAs (table .now) elem byte d))) (one-says d) $ heard ! (ToldAs (table .now) elem byte d) (λ told. split ! $ move ! (1 ∷ []) $
         peeks ! D.the-row (Is D.the-row) (shows 𝓤 H A D.the-row) d (u ∷ []) (λ is-told.
         let fields = LL.owed D.the-type D′.the-laws d _ is-told in
         land ! (from ! (stop !)) (init ! 19 refl (LL.lawful D.the-type D′.the-laws 𝓤 H A W .typed d _ is-told .0)) $ drop ! $ split ! $
@@ -195,7 +195,7 @@ module _ {M : Type 1} (𝓤 : URA M) (H : Heap 𝓤) (A : Atoms 𝓤) (W : Given
         returns ! (look ! 26 refl) $ forget ! 6 refl $ forget ! 8 refl $ forget ! 10 refl $ forget ! 12 refl $ forget ! 14 refl $ forget ! 16 refl $ forget ! 18 refl $ forget ! 20 refl $ forget ! 22 refl $ forget ! 24 refl $ forget ! 26 refl $
         move ! (26 ∷ 27 ∷ []) $ free1 ! $ move ! (24 ∷ 25 ∷ []) $ free1 ! $ move ! (22 ∷ 23 ∷ []) $ free1 ! $ move ! (20 ∷ 21 ∷ []) $ free1 ! $ move ! (18 ∷ 19 ∷ []) $ free1 ! $ move ! (16 ∷ 17 ∷ []) $ free1 ! $ move ! (14 ∷ 15 ∷ []) $ free1 ! $ move ! (12 ∷ 13 ∷ []) $ free1 ! $ move ! (10 ∷ 11 ∷ []) $ free1 ! $ move ! (8 ∷ 9 ∷ []) $ free1 ! $ move ! (6 ∷ 7 ∷ []) $ free1 ! $ free0 ! $
         keep ! (0 ∷ 1 ∷ 2 ∷ 3 ∷ 5 ∷ []) $ by ! (exits (d .answer) _ (set ys job (d .guard)) (fields .0)
-        (ap {B = TellAnswer × List Guard} (λ z. (z .answer, set ys job (z .guard))) told ∙ sym (tell-inside ys job (table .now) (sym (refusing .0) ∙ is-false r inside) byte)) (length-set ys job (d .guard)))))))))))))))))))))
+        (tell-inside ys job (table .now) (sym (refusing .0) ∙ is-false r inside) byte d told) (length-set ys job (d .guard)))))))))))))))))))))
 
 tell-meets : {M : Type 1} (𝓤 : URA M) (H : Heap 𝓤) (A : Atoms 𝓤) → Given 𝓤 H A → (mem : Memory → SProp 𝓤) (run : Routine → Fun 𝓤) (𝓣 : Tables 𝓤 H)
     → Triple 𝓤 (𝓣 .C #guard·row·refuses) (Refuses 𝓤 H A mem run) → Triple 𝓤 (𝓣 .C #guard·Guard·tell) (One 𝓤 H A mem run)
