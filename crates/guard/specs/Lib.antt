@@ -1,3 +1,4 @@
 pub mod Guard
 pub mod Told
 pub mod Row
+pub mod Runs
