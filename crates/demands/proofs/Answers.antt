@@ -24,9 +24,19 @@ use Rattle.compare.specs.declared.CompareAnswer.{CompareAnswer}
 use Rattle.compare.specs.declared.CompareAnswer.the-variants as compare
 use Rattle.compare.specs.Compare.{BothTested, both-passed, one-refused, in-turn, says as compare-says}
 use Rattle.table.specs.Bytes.{sizeOf}
+use Rattle.table.specs.declared.TableAnswer.{TableAnswer}
+use Rattle.table.specs.declared.TableAnswer.the-variants as check
+use Rattle.table.specs.Check.{says as check-says}
 use Rattle.builder.specs.declared.BuildAnswer.{BuildAnswer}
 use Rattle.builder.specs.declared.BuildAnswer.the-variants as build
 use Rattle.builder.specs.Build.{roomRow, earlyRows, buildRows, says as build-says}
+use Rattle.guard.specs.declared.StartAnswer.{StartAnswer}
+use Rattle.guard.specs.declared.StartAnswer.the-variants as start
+use Rattle.guard.specs.declared.AskAnswer.{AskAnswer}
+use Rattle.guard.specs.declared.AskAnswer.the-variants as ask
+use Rattle.guard.specs.declared.TellAnswer.{TellAnswer}
+use Rattle.guard.specs.declared.TellAnswer.the-variants as tell
+use Rattle.guard.specs.Guard.{startSays, askSays, tellSays}
 use Rattle.demands.specs.Refusing.{Refuses}
 use Rattle.demands.proofs.Refusing.{refuses}
 
@@ -59,6 +69,36 @@ module _ (Number : ℕ → Type 0) (rows : List Row) where
       known : (r : BuildAnswer) (n v : ℕ) → build-says r ≡ refused n v → r ≡ build.Refused n v
       known (build.Built k) n v e = absurd (passed-not-refused e)
       known (build.Refused k u) n v e = cc
+
+  pub by-checked : (r : TableAnswer) → Numbers Number rows → check-says r ≡ first rows → Refuses check.Refused Number (first rows) r
+  by-checked r = refuses check-says check.Refused Number rows r (λ n v. refl) (known r)
+    where
+      known : (r : TableAnswer) (n v : ℕ) → check-says r ≡ refused n v → r ≡ check.Refused n v
+      known (check.States k) n v e = absurd (passed-not-refused e)
+      known (check.Refused k u) n v e = cc
+
+  pub by-started : (r : StartAnswer) → Numbers Number rows → startSays r ≡ first rows → Refuses start.Refused Number (first rows) r
+  by-started r = refuses startSays start.Refused Number rows r (λ n v. refl) (known r)
+    where
+      known : (r : StartAnswer) (n v : ℕ) → startSays r ≡ refused n v → r ≡ start.Refused n v
+      known start.Started n v e = absurd (passed-not-refused e)
+      known (start.Refused k u) n v e = cc
+
+  pub by-asked : (r : AskAnswer) → Numbers Number rows → askSays r ≡ first rows → Refuses ask.Refused Number (first rows) r
+  by-asked r = refuses askSays ask.Refused Number rows r (λ n v. refl) (known r)
+    where
+      known : (r : AskAnswer) (n v : ℕ) → askSays r ≡ refused n v → r ≡ ask.Refused n v
+      known ask.Normal n v e = absurd (passed-not-refused e)
+      known ask.Panic n v e = absurd (passed-not-refused e)
+      known ask.Lost n v e = absurd (passed-not-refused e)
+      known (ask.Refused k u) n v e = cc
+
+  pub by-told : (r : TellAnswer) → Numbers Number rows → tellSays r ≡ first rows → Refuses tell.Refused Number (first rows) r
+  by-told r = refuses tellSays tell.Refused Number rows r (λ n v. refl) (known r)
+    where
+      known : (r : TellAnswer) (n v : ℕ) → tellSays r ≡ refused n v → r ≡ tell.Refused n v
+      known tell.Told n v e = absurd (passed-not-refused e)
+      known (tell.Refused k u) n v e = cc
 
 -- the comparison, whose refusal also says which set
 both-not-one : {w n v : ℕ} → both-passed ≡ one-refused w n v → ⊥

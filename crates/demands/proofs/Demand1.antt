@@ -1,12 +1,13 @@
 -- Demand 1: "Every public entry judges them itself and ends. It refuses only by the numbers of the rules, in their order, and a refusal writes nothing, except that a work area already in use comes back cleared."
 -- Each entry is refused exactly by the first row that holds of its table, and by no number but its own; what was lent to a refused call is as it was. (The printing program's entry: `printing/proofs/Refuses`; the boundary's flat fields: `Demand1Flat`.) That every entry ends is what the checker proves of every function. Assumes nothing.
 use mathlib.Core.Path.{_≡_, refl, sym, ap, _∙_, subst}
-use mathlib.Core.Logic.{_↔_, _⊎_, inl, inr}
+use mathlib.Core.Logic.{_↔_}
 use mathlib.Core.List.{List, [], _∷_}
 use Prim.Native.Nat.{ℕ, _≤_}
 use native.Mathlib.Omega.{arith}
 use Rattle.layout.specs.Refusal.{Tested, passed, refused, first}
 use Rattle.layout.proofs.Rows.{and-then, first-append, first-number, from-to, passed-not-refused}
+use Rattle.patterns.specs.Outcome.{outcome}
 use Rattle.machines.specs.Machine.{Machine}
 use Rattle.machines.specs.Canonical.{Canonical}
 use Rattle.meaning.specs.declared.LimitSet.{LimitSet}
@@ -27,13 +28,30 @@ use Rattle.verdict.specs.Judge.{judgeRows, JudgedAs}
 use Rattle.compare.specs.declared.Compared.{Compared}
 use Rattle.compare.specs.declared.CompareAnswer.the-variants as compare
 use Rattle.compare.specs.Compare.{in-turn, one-refused, ComparedAs}
-use Rattle.table.specs.Bytes.{sizeOf}
+use Rattle.table.specs.Bytes.{machineOf, sizeOf}
+use Rattle.table.specs.Rows.{tableRows, lookRows}
+use Rattle.table.specs.declared.TableAnswer.{TableAnswer}
+use Rattle.table.specs.declared.TableAnswer.the-variants as check
+use Rattle.table.specs.Check.{CheckedAs}
 use Rattle.builder.specs.declared.BuildAnswer.{BuildAnswer}
 use Rattle.builder.specs.declared.BuildAnswer.the-variants as build
 use Rattle.builder.specs.Build.{roomRow, earlyRows, buildRows, tableWhen, WorkAfter, Cleared, BuiltAs}
+use Rattle.guard.specs.declared.Guard.{Guard}
+use Rattle.guard.specs.declared.Started.{Started}
+use Rattle.guard.specs.declared.Asked.{Asked}
+use Rattle.guard.specs.declared.Told.{Told}
+use Rattle.guard.specs.declared.StartAnswer.{StartAnswer}
+use Rattle.guard.specs.declared.AskAnswer.{AskAnswer}
+use Rattle.guard.specs.declared.TellAnswer.{TellAnswer}
+use Rattle.guard.specs.declared.StartAnswer.the-variants as start
+use Rattle.guard.specs.declared.AskAnswer.the-variants as ask
+use Rattle.guard.specs.declared.TellAnswer.the-variants as tell
+use Rattle.guard.specs.Guard.{StartedAs, AskedAs, tellRows, toldWhen, ToldAs}
+use Rattle.guard.specs.Row.{rowStartRows, RowStartedAs, rowAskRows, RowAskedAs, rowTellRows, RowToldAs}
+use Rattle.guard.proofs.RowLaws.{refused-start-leaves-row, refused-tell-leaves-row}
 use Rattle.demands.specs.Refusing.{Refuses}
-use Rattle.demands.proofs.Numbers.{WriteNumber, write-numbers, JudgeNumber, judge-numbers, early-numbers, build-numbers}
-use Rattle.demands.proofs.Answers.{by-set, by-written, by-judged, by-compared, one-of, by-built, one-size}
+use Rattle.demands.proofs.Numbers.{WriteNumber, write-numbers, JudgeNumber, judge-numbers, early-numbers, build-numbers, table-numbers, look-numbers, tell-numbers, RowNumber, row-start-numbers, row-ask-numbers, row-tell-numbers}
+use Rattle.demands.proofs.Answers.{by-set, by-written, by-judged, by-compared, one-of, by-built, one-size, by-checked, by-started, by-asked, by-told}
 
 -- Reading a set.
 pub read-refuses : (b : List ℕ) (r : SetRead) → ReadAs longest b r → Refuses read.Refused (from-to 1 7) (first (setRows longest b)) (r .answer)
@@ -89,3 +107,39 @@ module _ (set work work′ table table′ : List ℕ) (r : BuildAnswer) (built :
             let same : refused k u ≡ refused n v = sym (rows ∙ ap (λ t. and-then t (first (roomRow table (sizeOf (built .0 .states)) ∷ []))) f) ∙ rows-refused in
             let z : k ≡ n = cc in
             (λ h. w, λ h. absurd (omega (arith, first-number (from-to 1 8) (earlyRows longest set work) k u (early-numbers longest set work) f .1)))
+
+-- The table check, and the guard's calls.
+pub check-refuses : (b : List ℕ) (r : TableAnswer) → CheckedAs b r → Refuses check.Refused (from-to 10 12) (first (tableRows b)) r
+check-refuses b r checked = by-checked (from-to 10 12) (tableRows b) r (table-numbers b) (checked .refusal)
+
+pub start-refuses : (b : List ℕ) (r : Started) → StartedAs b r → Refuses start.Refused (from-to 10 12) (first (tableRows b)) (r .answer)
+start-refuses b r started = by-started (from-to 10 12) (tableRows b) (r .answer) (table-numbers b) (started .refusal)
+
+pub ask-refuses : (b : List ℕ) (g : Guard) (r : Asked) → AskedAs b g r → Refuses ask.Refused (from-to 10 12) (first (lookRows b (g .state))) (r .answer)
+ask-refuses b g r asked = by-asked (from-to 10 12) (lookRows b (g .state)) (r .answer) (look-numbers b (g .state)) (asked .refusal)
+
+module _ (b : List ℕ) (g : Guard) (byte : ℕ) (r : Told) (told : ToldAs b g byte r) where
+  pub tell-refuses : Refuses tell.Refused (from-to 10 13) (first (tellRows b g byte)) (r .answer)
+  tell-refuses = by-told (from-to 10 13) (tellRows b g byte) (r .answer) (tell-numbers b g byte) (told .refusal)
+
+  pub refused-tell-leaves-guard : (n v : ℕ) → r .answer ≡ tell.Refused n v → r .guard ≡ g
+  refused-tell-leaves-guard n v e = told .guard ∙ ap (λ t. toldWhen t (machineOf b) g (outcome byte)) (tell-refuses .exactly n v .0 e)
+
+-- The row's calls.
+module _ (r : List Guard) (job : ℕ) (b : List ℕ) where
+  module _ (a : StartAnswer) (r′ : List Guard) (started : RowStartedAs r job b a r′) where
+    pub row-start-refuses : Refuses start.Refused RowNumber (first (rowStartRows r job b)) a
+    row-start-refuses = by-started RowNumber (rowStartRows r job b) a (row-start-numbers r job b) (started .refusal)
+
+    pub refused-row-start-leaves-row : (n v : ℕ) → a ≡ start.Refused n v → r′ ≡ r
+    refused-row-start-leaves-row n v e = refused-start-leaves-row r job b (subst (λ z. RowStartedAs r job b z r′) e started)
+
+  pub row-ask-refuses : (a : AskAnswer) → RowAskedAs r job b a → Refuses ask.Refused RowNumber (first (rowAskRows r job b)) a
+  row-ask-refuses a asked = by-asked RowNumber (rowAskRows r job b) a (row-ask-numbers r job b) (asked .refusal)
+
+  module _ (byte : ℕ) (a : TellAnswer) (r′ : List Guard) (told : RowToldAs r job b byte a r′) where
+    pub row-tell-refuses : Refuses tell.Refused (from-to 10 14) (first (rowTellRows r job b byte)) a
+    row-tell-refuses = by-told (from-to 10 14) (rowTellRows r job b byte) a (row-tell-numbers r job b byte) (told .refusal)
+
+    pub refused-row-tell-leaves-row : (n v : ℕ) → a ≡ tell.Refused n v → r′ ≡ r
+    refused-row-tell-leaves-row n v e = refused-tell-leaves-row r job b byte (subst (λ z. RowToldAs r job b byte z r′) e told)

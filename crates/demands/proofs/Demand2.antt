@@ -2,12 +2,13 @@
 -- The first sentence is the definition `KeptBy` of `meaning`; here is what the entries answer by it. Assumes nothing.
 use mathlib.Core.Path.{_≡_, refl, sym, ap, _∙_, subst}
 use mathlib.Core.Logic.{_↔_}
+use mathlib.Core.Option.{some}
 use mathlib.Core.Bool.{Bool, true, false}
 use mathlib.Core.List.{List, [], _∷_, _++_}
 use Prim.Native.Nat.{ℕ, _-_, _≤_}
 use native.Mathlib.Omega.{arith}
 use lib.ListN.{length, replicate}
-use Rattle.layout.specs.Refusal.{passed, first}
+use Rattle.layout.specs.Refusal.{Tested, passed, refused, first}
 use Rattle.layout.proofs.Rows.{passed-not-refused}
 use Rattle.patterns.specs.Outcome.{outcome, outcomes}
 use Rattle.machines.specs.Machine.{walk, Can}
@@ -29,8 +30,22 @@ use Rattle.compare.specs.declared.CompareAnswer.the-variants as comparison
 use Rattle.compare.specs.Compare.{packed, BothTested, both-passed, one-refused, in-turn, says as compare-says, Answers, ComparedAs}
 use Rattle.compare.proofs.Packing.{packed-injective}
 use Rattle.table.specs.Bytes.{machineOf}
+use Rattle.guard.specs.declared.Guard.{Guard}
+use Rattle.guard.specs.declared.Started as start
+use Rattle.guard.specs.declared.Asked.{Asked}
+use Rattle.guard.specs.declared.Told.{Told}
+use Rattle.guard.specs.declared.AskAnswer.{AskAnswer}
+use Rattle.guard.specs.declared.AskAnswer.the-variants as ask
+use Rattle.guard.specs.declared.StartAnswer.the-variants.{Started}
+use Rattle.guard.specs.Guard.{fresh, StartedAs, AskedAs, tellRows, toldWhen, ToldAs}
+use Rattle.guard.specs.Told.{toldAll, heard}
+use Rattle.guard.specs.Row.{guardAt, RowStartedAs, RowAskedAs}
+use Rattle.guard.specs.Runs.{RowCall, RowRun, callsOf, OnTable, bytesTold}
+use Rattle.guard.proofs.Alone.{own-ask, started-job}
 use Rattle.demands.specs.TableOf.{TableOf}
+use Rattle.demands.specs.Guarding.{Answers as Guarded}
 use Rattle.demands.proofs.Tables.{made-walks-kept}
+use Rattle.demands.proofs.Guarded.{answers-by-meaning, heeded-kept, kept-not-lost as guard-not-lost, hits-bring-fresh, lost-state}
 use Rattle.demands.proofs.Answers.{both-accepted}
 
 -- The verdict says kept exactly when the set is accepted, the outcomes are 0 and 1 and the set keeps them, and lost at a job by a limit exactly as that is meant.
@@ -90,3 +105,56 @@ module _ (a b : List ℕ) (r : Compared) (compared : ComparedAs longest a b r) w
       go comparison.Covers e (c, v) f = absurd (f .between .1 (c q (f .between .0)))
       go comparison.Between e (s, h, g) f = (refl, g ∙ ap packed (first-between-unique (setOf a) (setOf b) s q h f))
       go (comparison.Refused w n u) e v f = let z : _≡_ {A = ℕ} 0 1 = cc in absurd (omega arith)
+
+-- The table walked from its first state walks exactly what the set keeps.
+pub table-walks-kept : (set b : List ℕ) → TableOf set b → (p : List Bool) → Can (machineOf b) 0 p ↔ KeptBy (setOf set) p
+table-walks-kept = made-walks-kept
+
+-- A guard that start gave on that table, told any bytes, refused ones too. (An ask gives the guard back unchanged, so asks may stand between tells: `AskedAs`.)
+module _ (set b : List ℕ) (t : TableOf set b) (s : start.Started) (started : StartedAs b s) (told : List ℕ) where
+  abbrev g : Guard
+  g = toldAll b (s .guard) told
+
+  -- It says panic exactly when the outcomes heard are kept and one more miss would make them not kept; normal where they are kept then too, lost where they aren't kept.
+  pub guard-answers : (r : Asked) → AskedAs b g r → Guarded (setOf set) (heard told) (r .answer)
+  guard-answers r asked = answers-by-meaning set b t told r (rw (started .guard) at asked)
+
+  -- While every panic job is met, no limit is broken: if wherever ask said panic the next outcome told was a hit, the outcomes heard are kept and the guard isn't lost. (A byte that is refused isn't an outcome told, and isn't a miss.)
+  pub met-panics-keep : ((before after : List ℕ) (byte : ℕ) (r : Asked) → told ≡ before ++ (byte ∷ after) → AskedAs b (toldAll b (s .guard) before) r → r .answer ≡ ask.Panic → outcome byte ≡ true)
+      → KeptBy (setOf set) (heard told) × (g .lost ≡ false)
+  met-panics-keep = rw (started .guard) (λ met. let k = heeded-kept set b t told met in (k, guard-not-lost set b t told k))
+
+  -- Eleven hits bring a guard that isn't lost back to what start gave.
+  pub hits-bring-back : g .lost ≡ false → toldAll b (s .guard) (told ++ replicate (longest - 1) 1) ≡ s .guard
+  hits-bring-back = rw (started .guard) (hits-bring-fresh set b t told)
+
+  -- Where the outcomes heard are q, a miss that loses them and any others r, the guard is lost, in the state where q leads.
+  pub lost-keeps-state : (q r : List Bool) → heard told ≡ q ++ (false ∷ r) → KeptBy (setOf set) q → (KeptBy (setOf set) (q ++ false ∷ []) → ⊥)
+      → (g .lost ≡ true) × (walk (machineOf b) 0 q ≡ some (g .state))
+  lost-keeps-state = rw (started .guard) (lost-state set b t told)
+
+-- Lost stays lost, on every table: a tell and an ask give a lost guard back; only start gives one that isn't.
+module _ (b : List ℕ) where
+  pub told-lost-guard : (g : Guard) (byte : ℕ) (r : Told) → ToldAs b g byte r → g .lost ≡ true → r .guard ≡ g
+  told-lost-guard g byte r told e = told .guard ∙ go (first (tellRows b g byte))
+    where
+      go : (t : Tested) → toldWhen t (machineOf b) g (outcome byte) ≡ g
+      go passed = rw e
+      go (refused n v) = refl
+
+  pub asked-guard : (g : Guard) (r : Asked) → AskedAs b g r → r .guard ≡ g
+  asked-guard g r asked = asked .guard
+
+  pub started-guard : (r : start.Started) → StartedAs b r → r .guard .lost ≡ false
+  started-guard r started = ap (λ z. z .lost) (started .guard)
+
+-- The row: a job that was started on that table, any calls on the row after it, of that job only asks and tells on that table, and then an ask. It hears what a single guard hears.
+module _ (set b : List ℕ) (t : TableOf set b) (row started last : List Guard) (job : ℕ) (calls : List RowCall)
+    (start : RowStartedAs row job b Started started) (run : RowRun started calls last) (on : OnTable b (callsOf job calls)) where
+  pub row-answers : (a : AskAnswer) → RowAskedAs last job b a → Guarded (setOf set) (heard (bytesTold (callsOf job calls))) a
+  row-answers a asked =
+      let told = bytesTold (callsOf job calls) in
+      let (inside, own) = started-job b row started last job calls start run on in
+      let g = guardAt last job in
+      answers-by-meaning set b t told (record { answer = a; guard = g })
+      (subst (λ z. AskedAs b z (record { answer = a; guard = g })) own (own-ask job last inside b a asked))

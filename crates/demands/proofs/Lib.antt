@@ -3,6 +3,7 @@ pub mod Room
 pub mod Refusing
 pub mod Numbers
 pub mod Answers
+pub mod Guarded
 pub mod Demand1
 pub mod Demand2
 pub mod Demand3

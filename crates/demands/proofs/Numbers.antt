@@ -1,9 +1,10 @@
 -- By which numbers the entries above sets can refuse: a table by 10 to 12, outcomes by 13, a row by 14 too. Assumes nothing.
 use mathlib.Core.Path.{_≡_, refl}
 use mathlib.Core.Logic.{_⊎_, inl, inr}
-use mathlib.Core.List.{List, [], _∷_, _++_}
+use mathlib.Core.List.{List, [], _∷_}
 use Prim.Native.Nat.{ℕ, zero, suc}
 use native.Mathlib.Omega.{arith}
+use lib.Dec.{leb, ltb}
 use Rattle.layout.specs.Refusal.{row}
 use Rattle.layout.proofs.Rows.{Numbers, from-to, numbers-append, numbers-among}
 use Rattle.patterns.specs.Outcome.{outcomeRows}
@@ -12,7 +13,12 @@ use Rattle.sets.specs.Rows.{setRows, memoryRows}
 use Rattle.sets.specs.Write.{sizeOf, writeRows}
 use Rattle.sets.proofs.Numbers.{set-numbers, MemoryNumber, memory-numbers}
 use Rattle.verdict.specs.Judge.{judgeRows}
+use Rattle.table.specs.Bytes.{stateCount}
+use Rattle.table.specs.Rows.{countRows, entryRows, entriesRows, tableRows, lookRows}
 use Rattle.builder.specs.Build.{areaRow, roomRow, earlyRows, buildRows}
+use Rattle.guard.specs.declared.Guard.{Guard}
+use Rattle.guard.specs.Guard.{tellRows}
+use Rattle.guard.specs.Row.{guardAt, rowStartRows, rowAskRows, rowTellRows}
 
 -- writing a set: 3, 5, 6, 7, 9
 abbrev pub WriteNumber : ℕ → Type 0
@@ -48,3 +54,38 @@ pub build-numbers : (w : ℕ) (set work table : List ℕ) (size : ℕ) → Numbe
 build-numbers w set work table size =
     numbers-append (from-to 1 9) (earlyRows w set work) (roomRow table size ∷ [])
     (numbers-among (from-to 1 8) (from-to 1 9) (λ n (l, h). (omega arith, omega arith)) (earlyRows w set work) (early-numbers w set work)) ((omega arith, omega arith), tt)
+
+-- a table, and one of its states
+count-numbers : (b : List ℕ) → Numbers (from-to 10 12) (countRows b)
+count-numbers b = ((omega arith, omega arith), ((omega arith, omega arith), ((omega arith, omega arith), ((omega arith, omega arith), tt))))
+
+entries-numbers : (b : List ℕ) (s n : ℕ) → Numbers (from-to 10 12) (entriesRows b s n)
+unfolding entriesRows
+entries-numbers b s zero = tt
+entries-numbers b s (suc n) = ((omega arith, omega arith), ((omega arith, omega arith), entries-numbers b (suc s) n))
+
+pub table-numbers : (b : List ℕ) → Numbers (from-to 10 12) (tableRows b)
+table-numbers b = numbers-append (from-to 10 12) (countRows b) (entriesRows b 0 (stateCount b)) (count-numbers b) (entries-numbers b 0 (stateCount b))
+
+pub look-numbers : (b : List ℕ) (s : ℕ) → Numbers (from-to 10 12) (lookRows b s)
+look-numbers b s = numbers-append (from-to 10 12) (countRows b) (row 12 (leb (stateCount b) s) 0 ∷ entryRows b s) (count-numbers b) ((omega arith, omega arith), ((omega arith, omega arith), ((omega arith, omega arith), tt)))
+
+pub tell-numbers : (b : List ℕ) (g : Guard) (byte : ℕ) → Numbers (from-to 10 13) (tellRows b g byte)
+tell-numbers b g byte =
+    numbers-append (from-to 10 13) (lookRows b (g .state)) (row 13 (ltb 1 byte) 0 ∷ [])
+    (numbers-among (from-to 10 12) (from-to 10 13) (λ n (l, h). (omega arith, omega arith)) (lookRows b (g .state)) (look-numbers b (g .state))) ((omega arith, omega arith), tt)
+
+-- a row's start and ask: 14, 10 to 12, never 13; its tell 10 to 14
+abbrev pub RowNumber : ℕ → Type 0
+RowNumber n = (n ≡ 14) ⊎ from-to 10 12 n
+
+module _ (r : List Guard) (job : ℕ) (b : List ℕ) where
+  pub row-start-numbers : Numbers RowNumber (rowStartRows r job b)
+  row-start-numbers = (inl refl, numbers-among (from-to 10 12) RowNumber (λ n h. inr h) (tableRows b) (table-numbers b))
+
+  pub row-ask-numbers : Numbers RowNumber (rowAskRows r job b)
+  row-ask-numbers = (inl refl, numbers-among (from-to 10 12) RowNumber (λ n h. inr h) (lookRows b (guardAt r job .state)) (look-numbers b (guardAt r job .state)))
+
+  pub row-tell-numbers : (byte : ℕ) → Numbers (from-to 10 14) (rowTellRows r job b byte)
+  row-tell-numbers byte =
+      ((omega arith, omega arith), numbers-among (from-to 10 13) (from-to 10 14) (λ n (l, h). (omega arith, omega arith)) (tellRows b (guardAt r job) byte) (tell-numbers b (guardAt r job) byte))

@@ -8,24 +8,34 @@ use native.Mathlib.Decide.{decLt, ℕ-discrete}
 use native.Mathlib.Omega.{arith}
 use borrow.Author.Tests.{eq-eqb, ne-eqb, le-leb}
 use lib.Dec.{eqb, ltb}
-use lib.ListN.{length}
+use lib.ListN.{length, set, length-set}
 use lib.Seq.{getD-set-same}
 use Rattle.table.specs.Shared.{Tested, passed, refused, first, outcome, Machine}
 use Rattle.table.specs.Bytes.{machineOf}
 use Rattle.table.specs.Rows.{tableRows, lookRows}
-use Rattle.table.proofs.Shared.{first-skip, passed-not-refused}
+use Rattle.table.proofs.Shared.{first-skip, passed-first, passed-not-refused}
 use Rattle.guard.specs.declared.Guard.{Guard}
 use Rattle.guard.specs.declared.StartAnswer.{StartAnswer}
 use Rattle.guard.specs.declared.StartAnswer.the-variants as start
 use Rattle.guard.specs.declared.AskAnswer.{AskAnswer}
 use Rattle.guard.specs.Guard.{fresh, startSays, AskedAs, after, tellRows, toldWhen, ToldAs}
 use Rattle.guard.specs.Told.{toldAll}
-use Rattle.guard.specs.Row.{mostGuards, guardAt, outside, ChangesOnly, rowStartedWhen, RowAskedAs, rowToldWhen}
+use Rattle.guard.specs.Row.{mostGuards, guardAt, outside, jobRow, ChangesOnly, rowStartedWhen, RowStartedAs, RowAskedAs, rowToldWhen}
 use Rattle.guard.specs.Runs.{Call, starts, asks, tells, taken, Run, RowCall, RowStep, RowRun, callsOf, OnTable, bytesTold}
 use Rattle.guard.proofs.RowLaws.{others-stay-at-start, others-stay-at-tell}
 
 pub inside-below : (count job : ℕ) → outside count job ≡ false → job < count
 inside-below count job e = dite (decLt job count) (λ h. h) (λ h. absurd (true≢false (sym (ap (λ z. z || ltb mostGuards count) (le-leb count job (omega arith))) ∙ e)))
+
+-- a call of any job changes that job's record only
+step-changes : (r : List Guard) (other : ℕ) (c : Call) (r′ : List Guard) → RowStep r other c r′ → ChangesOnly other r r′
+step-changes r other (starts b a) r′ s = others-stay-at-start r other b s
+step-changes r other (asks b a) r′ (s, w) = record { count = ap length w; others = λ k d. ap (λ z. guardAt z k) w }
+step-changes r other (tells b byte a) r′ s = others-stay-at-tell r other b byte s
+
+pub run-count : (r : List Guard) (calls : List RowCall) (last : List Guard) → RowRun r calls last → length last ≡ length r
+run-count r [] last w = ap length w
+run-count r (c ∷ calls) last (r′, s, rest) = run-count r′ calls last rest ∙ step-changes r (c .job) (c .call) r′ s .count
 
 module _ (job : ℕ) where
   module _ (r : List Guard) (e : outside (length r) job ≡ false) where
@@ -54,16 +64,6 @@ module _ (job : ℕ) where
         go passed m o w = ap (λ z. guardAt z job) w ∙ getD-set-same r job (after m (guardAt r job) o) fresh (inside-below (length r) job e)
         go (refused n v) m o w = ap (λ z. guardAt z job) w
 
-  -- a call of any job changes that job's record only
-  step-changes : (r : List Guard) (other : ℕ) (c : Call) (r′ : List Guard) → RowStep r other c r′ → ChangesOnly other r r′
-  step-changes r other (starts b a) r′ s = others-stay-at-start r other b s
-  step-changes r other (asks b a) r′ (s, w) = record { count = ap length w; others = λ k d. ap (λ z. guardAt z k) w }
-  step-changes r other (tells b byte a) r′ s = others-stay-at-tell r other b byte s
-
-  pub run-count : (r : List Guard) (calls : List RowCall) (last : List Guard) → RowRun r calls last → length last ≡ length r
-  run-count r [] last w = ap length w
-  run-count r (c ∷ calls) last (r′, s, rest) = run-count r′ calls last rest ∙ step-changes r (c .job) (c .call) r′ s .count
-
   pub job-runs-alone : (r : List Guard) (calls : List RowCall) (last : List Guard) → outside (length r) job ≡ false → RowRun r calls last
       → Run (guardAt r job) (callsOf job calls) (guardAt last job)
   job-runs-alone r [] last e w = ap (λ z. guardAt z job) w
@@ -83,3 +83,15 @@ run-told b g (starts b′ a ∷ calls) h on w = absurd on
 run-told b g (asks b′ a ∷ calls) h (q, on) (s, asked, rest) = run-told b s calls h on rest ∙ ap (λ z. toldAll b z (bytesTold calls)) (asked .guard)
 run-told b g (tells b′ byte a ∷ calls) h (q, on) (s, told, rest) =
     run-told b s calls h on rest ∙ ap (λ z. toldAll b z (bytesTold calls)) (subst (λ z. ToldAs z g byte (record { answer = a; guard = s })) q told .guard)
+
+-- a job that was started on a table, and of whose later calls all are asks and tells on it: it is one of the row's, and its record is the guard after the bytes told to it
+pub started-job : (b : List ℕ) (row started last : List Guard) (job : ℕ) (calls : List RowCall) → RowStartedAs row job b start.Started started → RowRun started calls last → OnTable b (callsOf job calls)
+    → (outside (length last) job ≡ false) × (guardAt last job ≡ toldAll b fresh (bytesTold (callsOf job calls)))
+started-job b row started last job calls s run on =
+    let e = passed-first (jobRow row job) (tableRows b) (sym (s .refusal)) .0 in
+    let w : started ≡ set row job fresh = s .row ∙ sym (ap (λ t. rowStartedWhen t row job) (s .refusal)) in
+    let l : length started ≡ length row = ap length w ∙ length-set row job fresh in
+    let inside = ap (λ n. outside n job) l ∙ e in
+    let own = ap (λ z. guardAt z job) w ∙ getD-set-same row job fresh fresh (inside-below (length row) job e) in
+    let alone = subst (λ z. Run z (callsOf job calls) (guardAt last job)) own (job-runs-alone job started calls last inside run) in
+    (ap (λ n. outside n job) (run-count started calls last run) ∙ inside, run-told b fresh (callsOf job calls) (guardAt last job) on alone)

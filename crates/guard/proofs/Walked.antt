@@ -1,15 +1,15 @@
--- A guard that is told outcomes walks them: it is lost exactly when they can't be walked, and then in the state where their longest walk ends. Assumes nothing.
+-- A guard that is told outcomes walks them: it is lost exactly when they can't be walked, and keeps the state from before the miss that lost it. Assumes nothing.
 use mathlib.Core.Path.{_≡_, refl, sym, ap, _∙_}
 use mathlib.Core.Logic.{_↔_}
 use mathlib.Core.Option.{Option, none, some, Option·none-ne-some}
-use mathlib.Core.Bool.{Bool, true, true≢false}
-use mathlib.Core.List.{List, [], _∷_}
+use mathlib.Core.Bool.{Bool, true, false, true≢false}
+use mathlib.Core.List.{List, [], _∷_, _++_}
 use Prim.Native.Nat.{ℕ}
 use Rattle.table.specs.Shared.{Machine, walk, Can}
 use Rattle.table.proofs.Shared.{walk-first}
 use Rattle.guard.specs.declared.Guard.{Guard}
 use Rattle.guard.specs.Guard.{after}
-use Rattle.guard.specs.Told.{inState, afterAll, LongestWalk}
+use Rattle.guard.specs.Told.{inState, afterAll}
 
 module _ (m : Machine) where
   pub lost-stays : (g : Guard) (p : List Bool) → g .lost ≡ true → afterAll m g p ≡ g
@@ -28,30 +28,22 @@ module _ (m : Machine) where
       let (u, f, g) = walk-first m s t o p e in
       ap (λ z. afterAll m z p) (step-moves s u o f) ∙ told-walk u t p g
 
-  pub told-lost : (s : ℕ) (p : List Bool) → walk m s p ≡ none
-      → (q : List Bool) × (t : ℕ) × (afterAll m (inState s) p ≡ record { state = t; lost = true }) × LongestWalk m s p q t
+  -- outcomes that lead to s, a miss that isn't possible there, and any others: lost, in state s
+  pub after-lost : (start s : ℕ) (q r : List Bool) → walk m start q ≡ some s → m .next s false ≡ none → afterAll m (inState start) (q ++ (false ∷ r)) ≡ record { state = s; lost = true }
+  after-lost start s [] r e f =
+      let z : start ≡ s = cc in
+      ap (λ k. afterAll m (after m (inState k) false) r) z ∙ ap (λ g. afterAll m g r) (step-blocked s false f) ∙ lost-stays (record { state = s; lost = true }) r refl
+  after-lost start s (o ∷ q) r e f =
+      let (u, g, h) = walk-first m start s o q e in
+      ap (λ z. afterAll m z (q ++ (false ∷ r))) (step-moves start u o g) ∙ after-lost u s q r h f
+
+  told-lost : (s : ℕ) (p : List Bool) → walk m s p ≡ none → afterAll m (inState s) p .lost ≡ true
   told-lost s [] e = absurd (Option·none-ne-some s (sym e))
   told-lost s (o ∷ p) e = go (m .next s o) refl (λ u. told-lost u p)
     where
-      go : (r : Option ℕ) → m .next s o ≡ r
-          → ((u : ℕ) → walk m u p ≡ none → (q : List Bool) × (t : ℕ) × (afterAll m (inState u) p ≡ record { state = t; lost = true }) × LongestWalk m u p q t)
-          → (q : List Bool) × (t : ℕ) × (afterAll m (inState s) (o ∷ p) ≡ record { state = t; lost = true }) × LongestWalk m s (o ∷ p) q t
-      go none f ih =
-          let g = ap (λ z. afterAll m z p) (step-blocked s o f) ∙ lost-stays (record { state = s; lost = true }) p refl in
-          ([], s, g, record { next = o; rest = p; begins = refl; leads = refl; stops = rw f })
-      go (some u) f ih =
-          let (q, t, g, l) = ih u (rw f at e) in (
-            o ∷ q,
-            t,
-            ap (λ z. afterAll m z p) (step-moves s u o f) ∙ g,
-            record {
-              next = l .next;
-              rest = l .rest;
-              begins = ap {B = List Bool} (λ z. o ∷ z) (l .begins);
-              leads = rw f (l .leads);
-              stops = rw f (l .stops);
-            },
-          )
+      go : (r : Option ℕ) → m .next s o ≡ r → ((u : ℕ) → walk m u p ≡ none → afterAll m (inState u) p .lost ≡ true) → afterAll m (inState s) (o ∷ p) .lost ≡ true
+      go none f ih = ap (λ z. z .lost) (ap (λ z. afterAll m z p) (step-blocked s o f) ∙ lost-stays (record { state = s; lost = true }) p refl)
+      go (some u) f ih = ap (λ z. afterAll m z p .lost) (step-moves s u o f) ∙ ih u (rw f at e)
 
   module _ (s : ℕ) (p : List Bool) where
     abbrev g : Guard
@@ -61,7 +53,7 @@ module _ (m : Machine) where
     lost-when n = go (walk m s p) refl
       where
         go : (r : Option ℕ) → walk m s p ≡ r → g .lost ≡ true
-        go none e = let (q, t, f, l) = told-lost s p e in ap (λ z. z .lost) f
+        go none e = told-lost s p e
         go (some t) e = absurd (n (t, e))
 
     pub lost-not-walked : (g .lost ≡ true) ↔ (Can m s p → ⊥)

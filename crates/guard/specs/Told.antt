@@ -1,12 +1,11 @@
 -- A guard told outcomes one after the other: "its state after each tell is named by the outcomes told".
 use mathlib.Core.Path.{_≡_}
 use mathlib.Core.Logic.{_↔_}
-use mathlib.Core.Option.{none, some}
 use mathlib.Core.Bool.{Bool, false, cond}
 use mathlib.Core.List.{List, [], _∷_, _++_}
 use Prim.Native.Nat.{ℕ}
 use lib.Dec.{ltb}
-use Rattle.table.specs.Shared.{outcome, Machine, walk, Can}
+use Rattle.table.specs.Shared.{outcome, Machine, Can}
 use Rattle.guard.specs.declared.Guard.{Guard}
 use Rattle.guard.specs.declared.AskAnswer.{AskAnswer}
 use Rattle.guard.specs.declared.AskAnswer.the-variants as ask
@@ -30,14 +29,6 @@ toldAll b g (byte ∷ bytes) = toldAll b (toldOf b g byte) bytes
 abbrev pub heard : List ℕ → List Bool
 heard [] = []
 heard (byte ∷ bytes) = cond (ltb 1 byte) (heard bytes) (outcome byte ∷ heard bytes)
-
--- q is the longest beginning of p that can be walked from s, and leads to t: one outcome more can't be walked
-pub record LongestWalk (m : Machine) (s : ℕ) (p q : List Bool) (t : ℕ) : Type 0 where
-  pub next : Bool
-  pub rest : List Bool
-  pub begins : p ≡ q ++ (next ∷ rest)
-  pub leads : walk m s q ≡ some t
-  pub stops : walk m s (q ++ next ∷ []) ≡ none
 
 -- what an answer says of outcomes p told from state s: "Panic. The outcomes so far are kept, and with one more miss they aren't."
 pub record ByWalk (m : Machine) (s : ℕ) (p : List Bool) (a : AskAnswer) : Type 0 where
