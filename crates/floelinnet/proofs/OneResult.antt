@@ -13,12 +13,21 @@ use Rattle.builder.specs.Build.{BuiltAs}
 use Rattle.builder.proofs.OneResult.{built-one-result}
 use Rattle.table.specs.Check.{CheckedAs}
 use Rattle.table.proofs.OneResult.{checked-one-result}
+use Rattle.guard.specs.declared.Guard.{Guard}
+use Rattle.guard.specs.Guard.{StartedAs, AskedAs, ToldAs}
+use Rattle.guard.specs.Row.{RowStartedAs, RowAskedAs, RowToldAs}
+use Rattle.guard.proofs.OneResult.{start-one-result, ask-one-result, tell-one-result, row-start-one-result, row-ask-one-result, row-tell-one-result}
 use Rattle.floelinnet.specs.declared.FloeSetRead.{FloeSetRead}
 use Rattle.floelinnet.specs.declared.FloeVerdict.{FloeVerdict}
 use Rattle.floelinnet.specs.declared.FloeComparison.{FloeComparison}
 use Rattle.floelinnet.specs.declared.FloeBuilt.{FloeBuilt}
 use Rattle.floelinnet.specs.declared.FloeChecked.{FloeChecked}
-use Rattle.floelinnet.specs.Flat.{FlatAnswer, flatSet, flatVerdict, flatComparison, flatBuilt, flatChecked}
+use Rattle.floelinnet.specs.declared.FloeStarted.{FloeStarted}
+use Rattle.floelinnet.specs.declared.FloeAsked.{FloeAsked}
+use Rattle.floelinnet.specs.declared.FloeTold.{FloeTold}
+use Rattle.floelinnet.specs.declared.FloeDone.{FloeDone}
+use Rattle.floelinnet.specs.declared.FloeRowAsked.{FloeRowAsked}
+use Rattle.floelinnet.specs.Flat.{FlatAnswer, flatSet, flatVerdict, flatComparison, flatBuilt, flatChecked, flatStart, flatAsk, flatTell, flatStarted, flatAsked, flatTold}
 
 one-flat : {A R : Type 0} (promise : A → Type 0) (flat : A → R) → ((a b : A) → promise a → promise b → a ≡ b) → (r t : R) → FlatAnswer promise flat r → FlatAnswer promise flat t → r ≡ t
 one-flat promise flat one r t (a, p, e) (b, q, f) = e ∙ ap flat (one a b p q) ∙ sym f
@@ -41,9 +50,28 @@ floe-build-one-result set work table a b c d r t (x, p, e) (y, q, f) =
 pub floe-check-table-one-result : (b : List ℕ) (r t : FloeChecked) → FlatAnswer (CheckedAs b) flatChecked r → FlatAnswer (CheckedAs b) flatChecked t → r ≡ t
 floe-check-table-one-result b = one-flat (CheckedAs b) flatChecked (checked-one-result b)
 
--- The guard's and the row's promises are equations: an answer is `value`, and in a row the answer and the row then are.
-pub floe-guard-one-result : {A R : Type 0} (value : A) (flat : A → R) (r t : R) → FlatAnswer (λ a. a ≡ value) flat r → FlatAnswer (λ a. a ≡ value) flat t → r ≡ t
-floe-guard-one-result value flat = one-flat (λ a. a ≡ value) flat (λ a b p q. p ∙ sym q)
+pub floe-guard-start-one-result : (b : List ℕ) (r t : FloeStarted) → FlatAnswer (StartedAs b) flatStarted r → FlatAnswer (StartedAs b) flatStarted t → r ≡ t
+floe-guard-start-one-result b = one-flat (StartedAs b) flatStarted (start-one-result b)
 
-pub floe-row-one-result : {A G R : Type 0} (value : A × G) (flat : A → R) (row row′ : G) (r t : R) → FlatAnswer (λ a. (a, row) ≡ value) flat r → FlatAnswer (λ a. (a, row′) ≡ value) flat t → (r ≡ t) × (row ≡ row′)
-floe-row-one-result value flat row row′ r t (a, p, e) (b, q, f) = (e ∙ ap (λ z. flat (z .0)) (p ∙ sym q) ∙ sym f, ap (λ z. z .1) (p ∙ sym q))
+pub floe-guard-ask-one-result : (b : List ℕ) (g : Guard) (r t : FloeAsked) → FlatAnswer (AskedAs b g) flatAsked r → FlatAnswer (AskedAs b g) flatAsked t → r ≡ t
+floe-guard-ask-one-result b g = one-flat (AskedAs b g) flatAsked (ask-one-result b g)
+
+pub floe-guard-tell-one-result : (b : List ℕ) (g : Guard) (byte : ℕ) (r t : FloeTold) → FlatAnswer (ToldAs b g byte) flatTold r → FlatAnswer (ToldAs b g byte) flatTold t → r ≡ t
+floe-guard-tell-one-result b g byte = one-flat (ToldAs b g byte) flatTold (tell-one-result b g byte)
+
+-- an answer beside the row as it is then
+one-flat-row : {A R : Type 0} (promise : A → List Guard → Type 0) (flat : A → R) → ((a b : A) (z z′ : List Guard) → promise a z → promise b z′ → (a ≡ b) × (z ≡ z′))
+    → (z z′ : List Guard) (r t : R) → FlatAnswer (λ a. promise a z) flat r → FlatAnswer (λ a. promise a z′) flat t → (r ≡ t) × (z ≡ z′)
+one-flat-row promise flat one z z′ r t (a, p, e) (b, q, f) =
+    let (same, rows) = one a b z z′ p q in
+    (e ∙ ap flat same ∙ sym f, rows)
+
+module _ (row : List Guard) (job : ℕ) (b : List ℕ) where
+  pub floe-row-start-one-result : (z z′ : List Guard) (r t : FloeDone) → FlatAnswer (λ a. RowStartedAs row job b a z) flatStart r → FlatAnswer (λ a. RowStartedAs row job b a z′) flatStart t → (r ≡ t) × (z ≡ z′)
+  floe-row-start-one-result = one-flat-row (RowStartedAs row job b) flatStart (row-start-one-result row job b)
+
+  pub floe-row-ask-one-result : (r t : FloeRowAsked) → FlatAnswer (RowAskedAs row job b) flatAsk r → FlatAnswer (RowAskedAs row job b) flatAsk t → r ≡ t
+  floe-row-ask-one-result = one-flat (RowAskedAs row job b) flatAsk (row-ask-one-result row job b)
+
+  pub floe-row-tell-one-result : (byte : ℕ) (z z′ : List Guard) (r t : FloeDone) → FlatAnswer (λ a. RowToldAs row job b byte a z) flatTell r → FlatAnswer (λ a. RowToldAs row job b byte a z′) flatTell t → (r ≡ t) × (z ≡ z′)
+  floe-row-tell-one-result byte = one-flat-row (RowToldAs row job b byte) flatTell (row-tell-one-result row job b byte)

@@ -1,6 +1,5 @@
 // The C boundary: each function says in a flat record what the library function behind it answers.
 // Every answer begins with the number of the refusal, 0 for none, and what the rules return beside it.
-ghost use mathlib.Core.Path.{_≡_};
 ghost use Rattle.meaning.specs.Longest.{longest};
 ghost use Rattle.sets.specs.Read.{ReadAs};
 ghost use Rattle.verdict.specs.Judge.{JudgedAs};

@@ -1,5 +1,4 @@
 // The boundary's row: each function says in a flat record what the library function on the lent row answers.
-ghost use mathlib.Core.Path.{_≡_};
 ghost use Rattle.guard.specs.Row.{RowStartedAs, RowAskedAs, RowToldAs};
 ghost use Rattle.floelinnet.specs.Flat.{FlatAnswer, flatStart, flatAsk, flatTell};
 use super::FloeDone;

@@ -39,7 +39,7 @@ use denote.Triple.Walked.{says, Stays, stay-none, stay-none-slice, walkOf, goes-
 use denote.Exit.{yes}
 use Rattle.guard.specs.declared.Guard.{Guard}
 use Rattle.guard.specs.declared.AskAnswer.{AskAnswer}
-use Rattle.guard.specs.Row.{rowAskedOf}
+use Rattle.guard.specs.Row.{RowAskedAs}
 use Rattle.guard.proofs.Guard as G
 use Rattle.guard.proofs.AskAnswer as S
 use Rattle.guard.proofs.AskAnswer.Laws as S′
@@ -101,7 +101,7 @@ module _ {M : Type 1} (𝓤 : URA M) (H : Heap 𝓤) (A : Atoms 𝓤) (W : Given
   abbrev Post : Val → SProp 𝓤
   Post = walkOf 𝓤 H A ask.ended stayed (ask.clauses 𝓤 H A mem run) .post bound
 
-  exits : (r : AskAnswer) (f : FloeRowAsked) (m : Val) → r ≡ rowAskedOf ys job (table .now) → f ≡ flatAsk r
+  exits : (r : AskAnswer) (f : FloeRowAsked) (m : Val) → RowAskedAs ys job (table .now) r → f ≡ flatAsk r
       → ent 𝓤 (⋆ 𝓤 H A ((‵ (flft κ q) ⊛ (‵ (flft κ′ q′) ⊛ ‵ ftrue)) ∷ ‵ Row ∷ ‵ (F.the-row .own f (m ∷ [])) ∷ ‵ Table ∷ [])) (Post m)
   exits r f m answer-is flat-is =
       qed W ((‵ (flft κ q) ⊛ (‵ (flft κ′ q′) ⊛ ‵ ftrue)) ∷ ‵ Row ∷ ‵ (F.the-row .own f (m ∷ [])) ∷ ‵ Table ∷ []) ∵
@@ -128,8 +128,8 @@ module _ {M : Type 1} (𝓤 : URA M) (H : Heap 𝓤) (A : Atoms 𝓤) (W : Given
   goes-flat r v = qed W (‵ (S.the-row .own r (v ∷ [])) ∷ []) ∵ nothing ! $ move ! (1 ∷ 0 ∷ []) $ join ! $ nothing ! $ join ! $ frame ! $ done !
 
   -- of each callee's `ensured`, the clause alone
-  inner-says : (r : AskAnswer) → ent 𝓤 (ensured 𝓤 H A inner.ended (inner.clauses 𝓤 H A mem run) (κ, (κ′, tt)) a tt r) (fact 𝓤 (r ≡ rowAskedOf ys job (table .now)))
-  inner-says r = exE 𝓤 _ (λ ws. snd∗ 𝓤 (sem 𝓤 H A (lasts inner.ended (κ, (κ′, tt)) a ws)) (fact 𝓤 (r ≡ rowAskedOf ys job (table .now))))
+  inner-says : (r : AskAnswer) → ent 𝓤 (ensured 𝓤 H A inner.ended (inner.clauses 𝓤 H A mem run) (κ, (κ′, tt)) a tt r) (fact 𝓤 (RowAskedAs ys job (table .now) r))
+  inner-says r = exE 𝓤 _ (λ ws. snd∗ 𝓤 (sem 𝓤 H A (lasts inner.ended (κ, (κ′, tt)) a ws)) (fact 𝓤 (RowAskedAs ys job (table .now) r)))
 
   flat-says : (r : AskAnswer) (f : FloeRowAsked) → ent 𝓤 (ensured 𝓤 H A flat.ended (flat.clauses 𝓤 H A mem run) tt (r, tt) tt f) (fact 𝓤 (f ≡ flatAsk r))
   flat-says r f = exE 𝓤 _ (λ ws. snd∗ 𝓤 (sem 𝓤 H A (lasts flat.ended tt (r, tt) ws)) (fact 𝓤 (f ≡ flatAsk r)))
@@ -144,7 +144,7 @@ module _ {M : Type 1} (𝓤 : URA M) (H : Heap 𝓤) (A : Atoms 𝓤) (W : Given
         -- [_4; …; _3; …; _2; …; _1; …; _0; …; what `guard::row::ask` asks; the row and the table]
         move ! (10 ∷ []) $ calls-at ! fm (Inner 𝓤 H A mem run) known-inner to-inner (and-then ! (load ! (from ! (stop !)) (look ! 7 refl)) (and-then ! (load ! (from ! (stop !)) (look ! 5 refl)) (and-then ! (load ! (from ! (stop !)) (look ! 3 refl)) (no-more !)))) (λ v.
         use1 W (later (some (λ (r : AskAnswer). ((‵ (flft κ q) ⊛ (‵ (flft κ′ q′) ⊛ ‵ ftrue)) ⊛ ‵ (S.the-row .own r (v ∷ []))) ⊛ raw (ensured 𝓤 H A inner.ended (inner.clauses 𝓤 H A mem run) (κ, (κ′, tt)) a tt r)))) (id⊢ 𝓤 _) $ await ! tt $ pick ! (λ r.
-        split ! $ move ! (1 ∷ []) $ use1 W (raw (fact 𝓤 (r ≡ rowAskedOf ys job (table .now)))) (inner-says r) $ heard ! (r ≡ rowAskedOf ys job (table .now)) (λ answer-is. split ! $ move ! (1 ∷ []) $
+        split ! $ move ! (1 ∷ []) $ use1 W (raw (fact 𝓤 (RowAskedAs ys job (table .now) r))) (inner-says r) $ heard ! (RowAskedAs ys job (table .now) r) (λ answer-is. split ! $ move ! (1 ∷ []) $
         peeks ! S.the-row (Is S.the-row) (shows 𝓤 H A S.the-row) r (v ∷ []) (λ is.
         -- [the answer; the tokens; the locals from 2 on; the row and the table]
         land ! (from ! (stop !)) (init ! 2 refl (EL.lawful S.the-type S′.the-laws 𝓤 H A W tt .typed r _ is .0)) $ use1 W (raw (Flat 𝓤 H A mem run .pre (to-flat r v))) (goes-flat r v) $

@@ -1,8 +1,7 @@
 -- `printing::lines::put_table`: a refused table is one line, a checked one its head and its states. Assumes nothing.
-use mathlib.Core.Path.{sym, _∙_}
 use borrow.Author.Needs.{needs}
 use Rattle.layout.specs.Refusal.{first}
-use Rattle.table.specs.Bytes.{stateCount, machineOf}
+use Rattle.table.specs.Bytes.{machineOf}
 use Rattle.table.specs.Rows.{tableRows}
 use Rattle.table.proofs.Answers.{states-passed, checked-refused}
 use Rattle.printing.proofs.Adding.{adds-same, adds-then}
@@ -30,7 +29,8 @@ put-states-requires c κs =
     let k = c .before .before .before .before .before .before in
     let t = k .before .before in
     let b = t .before .before .before .args .bytes .now in
-    states-passed (first (tableRows b)) (stateCount b) _ (sym (t .check-table .ensures) ∙ k .checked2 .given .1)
+    let r = t .check-table .ensures in
+    states-passed b (r .refusal, r .states) (k .checked2 .given .1)
 
 same-length : tie.Need-same-length
 same-length c = search needs
@@ -53,8 +53,9 @@ returns-2 c =
     let k = h .before .before .before in
     let t = k .before .before in
     let b = t .before .before .before .args .bytes .now in
-    let e = states-passed (first (tableRows b)) (stateCount b) _ (sym (t .check-table .ensures) ∙ k .checked2 .given .1) in
-    adds-same (passed-text (machineOf b) (first (tableRows b)) _ (e .0) (e .1)) (adds-then (h .put-head .ensures) (p .put-states .ensures))
+    let r = t .check-table .ensures in
+    let (passes, counted) = states-passed b (r .refusal, r .states) (k .checked2 .given .1) in
+    adds-same (passed-text (machineOf b) (first (tableRows b)) _ passes counted) (adds-then (h .put-head .ensures) (p .put-states .ensures))
 
 pub put-table-spec : {M : Type 1} → statement M
 put-table-spec =
