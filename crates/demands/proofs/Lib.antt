@@ -1,11 +1,13 @@
+pub mod Demand1
+pub mod Demand2
+pub mod Demand3
+pub mod Boundary
+pub mod WorkedRows
 pub mod Tables
 pub mod Room
 pub mod Refusing
 pub mod Numbers
 pub mod Answers
 pub mod Guarded
-pub mod Demand1
-pub mod Demand2
-pub mod Demand3
+pub mod FlatAnswers
 pub mod SmallMachines
-pub mod WorkedRows

@@ -1,0 +1,142 @@
+-- What the flat form of an answer says: its number and what else is returned are those of the answer, and a guard's answer is known from its fields. Assumes nothing.
+use mathlib.Core.Path.{_≡_, refl, sym, ap, _∙_}
+use mathlib.Core.Logic.{_↔_, Iff·trans}
+use mathlib.Core.Bool.{Bool}
+use mathlib.Core.List.{List}
+use Prim.Native.Nat.{ℕ, _≤_}
+use native.Mathlib.Omega.{arith}
+use Rattle.layout.specs.Refusal.{Row, Tested, first}
+use Rattle.layout.proofs.Rows.{Numbers}
+use Rattle.meaning.specs.declared.LimitSet.{LimitSet}
+use Rattle.meaning.specs.Longest.{longest}
+use Rattle.sets.specs.Rows.{setRows}
+use Rattle.sets.proofs.Numbers.{set-numbers}
+use Rattle.sets.specs.declared.SetRead.{SetRead}
+use Rattle.sets.specs.declared.SetAnswer.{SetAnswer}
+use Rattle.sets.specs.declared.SetAnswer.the-variants as read
+use Rattle.sets.specs.Read.{says as read-says}
+use Rattle.verdict.specs.declared.Judgement.{Judgement}
+use Rattle.verdict.specs.declared.Judgement.the-variants as judge
+use Rattle.verdict.specs.Judge.{says as judge-says}
+use Rattle.compare.specs.declared.CompareAnswer.{CompareAnswer}
+use Rattle.compare.specs.declared.CompareAnswer.the-variants as compare
+use Rattle.compare.specs.Compare.{BothTested, both-passed, one-refused, in-turn, says as compare-says, ComparedAs}
+use Rattle.table.specs.declared.TableAnswer.{TableAnswer}
+use Rattle.table.specs.declared.TableAnswer.the-variants as check
+use Rattle.table.specs.Check.{says as check-says}
+use Rattle.builder.specs.declared.BuildAnswer.{BuildAnswer}
+use Rattle.builder.specs.declared.BuildAnswer.the-variants as build
+use Rattle.builder.specs.Build.{says as build-says}
+use Rattle.guard.specs.declared.StartAnswer.{StartAnswer}
+use Rattle.guard.specs.declared.StartAnswer.the-variants as start
+use Rattle.guard.specs.declared.AskAnswer.{AskAnswer}
+use Rattle.guard.specs.declared.AskAnswer.the-variants as ask
+use Rattle.guard.specs.declared.TellAnswer.{TellAnswer}
+use Rattle.guard.specs.declared.TellAnswer.the-variants as tell
+use Rattle.guard.specs.Guard.{startSays, askSays, tellSays}
+use Rattle.floelinnet.specs.declared.FloeComparison.{FloeComparison}
+use Rattle.floelinnet.specs.Flat.{FlatAnswer, flatCompared, flatComparison, flatSet, flatSetOf, flatVerdict, flatBuilt, flatChecked, flatStart, flatAsk, flatTell}
+use Rattle.demands.specs.Refusing.{RefusesFlat}
+use Rattle.demands.specs.Guarding.{Answers, AnswersFlat}
+use Rattle.demands.proofs.Answers.{one-of}
+use Rattle.demands.proofs.Refusing.{numberOf, atOf, refuses-flat}
+
+-- the first two fields of a flat record say what the answer says
+abbrev pub Opens : Tested → (refused at : ℕ) → Type 0
+Opens t refused at = (refused ≡ numberOf t) × (at ≡ atOf t)
+
+pub opens-refuses : (Number : ℕ → Type 0) (rows : List Row) {refused at : ℕ} {t : Tested} → ((n : ℕ) → Number n → 1 ≤ n) → Numbers Number rows
+    → Opens t refused at → t ≡ first rows → RefusesFlat Number (first rows) refused at
+opens-refuses Number rows {refused} {at} positive all (a, b) e = refuses-flat Number rows refused at positive all (a ∙ ap numberOf e) (b ∙ ap atOf e)
+
+pub set-opens : (a : SetRead) → Opens (read-says (a .answer)) (flatSet a .refused) (flatSet a .at)
+set-opens a = go (a .answer)
+  where
+    go : (x : SetAnswer) → Opens (read-says x) (flatSetOf x (a .set) .refused) (flatSetOf x (a .set) .at)
+    go read.Accepted = (refl, refl)
+    go (read.Refused n v) = (refl, refl)
+
+pub verdict-opens : (a : Judgement) → Opens (judge-says a) (flatVerdict a .refused) (flatVerdict a .at)
+verdict-opens judge.Kept = (refl, refl)
+verdict-opens (judge.Lost j i) = (refl, refl)
+verdict-opens (judge.Refused n v) = (refl, refl)
+
+pub built-opens : (a : BuildAnswer) → Opens (build-says a) (flatBuilt a .refused) (flatBuilt a .at)
+built-opens (build.Built n) = (refl, refl)
+built-opens (build.Refused n v) = (refl, refl)
+
+pub checked-opens : (a : TableAnswer) → Opens (check-says a) (flatChecked a .refused) (flatChecked a .at)
+checked-opens (check.States n) = (refl, refl)
+checked-opens (check.Refused n v) = (refl, refl)
+
+pub start-opens : (a : StartAnswer) → Opens (startSays a) (flatStart a .refused) (flatStart a .at)
+start-opens start.Started = (refl, refl)
+start-opens (start.Refused n v) = (refl, refl)
+
+pub ask-opens : (a : AskAnswer) → Opens (askSays a) (flatAsk a .refused) (flatAsk a .at)
+ask-opens ask.Normal = (refl, refl)
+ask-opens ask.Panic = (refl, refl)
+ask-opens ask.Lost = (refl, refl)
+ask-opens (ask.Refused n v) = (refl, refl)
+
+pub tell-opens : (a : TellAnswer) → Opens (tellSays a) (flatTell a .refused) (flatTell a .at)
+tell-opens tell.Told = (refl, refl)
+tell-opens (tell.Refused n v) = (refl, refl)
+
+-- a guard's answer by its fields, since no refusal has number 0
+module _ (s : LimitSet) (p : List Bool) (a : AskAnswer) (positive : (n v : ℕ) → a ≡ ask.Refused n v → 1 ≤ n) (answers : Answers s p a) where
+  pub answers-flat : AnswersFlat s p (flatAsk a .refused) (flatAsk a .answer)
+  answers-flat = record {
+    normal = Iff·trans (normal a positive) (answers .normal);
+    panic = Iff·trans (panic a) (answers .panic);
+    lost = Iff·trans (lost a) (answers .lost);
+  }
+    where
+      normal : (a : AskAnswer) → ((n v : ℕ) → a ≡ ask.Refused n v → 1 ≤ n) → ((flatAsk a .refused ≡ 0) × (flatAsk a .answer ≡ 0)) ↔ (a ≡ ask.Normal)
+      normal ask.Normal h = (λ z. refl, λ z. (refl, refl))
+      normal ask.Panic h = (λ z. absurd (omega arith), λ z. let y : _≡_ {A = ℕ} 0 1 = cc in absurd (omega arith))
+      normal ask.Lost h = (λ z. absurd (omega arith), λ z. let y : _≡_ {A = ℕ} 0 1 = cc in absurd (omega arith))
+      normal (ask.Refused n v) h = (λ z. absurd (omega (arith, h n v refl)), λ z. let y : _≡_ {A = ℕ} 0 1 = cc in absurd (omega arith))
+
+      panic : (a : AskAnswer) → ((flatAsk a .refused ≡ 0) × (flatAsk a .answer ≡ 1)) ↔ (a ≡ ask.Panic)
+      panic ask.Normal = (λ z. absurd (omega arith), λ z. let y : _≡_ {A = ℕ} 0 1 = cc in absurd (omega arith))
+      panic ask.Panic = (λ z. refl, λ z. (refl, refl))
+      panic ask.Lost = (λ z. absurd (omega arith), λ z. let y : _≡_ {A = ℕ} 0 1 = cc in absurd (omega arith))
+      panic (ask.Refused n v) = (λ z. absurd (omega arith), λ z. let y : _≡_ {A = ℕ} 0 1 = cc in absurd (omega arith))
+
+      lost : (a : AskAnswer) → ((flatAsk a .refused ≡ 0) × (flatAsk a .answer ≡ 2)) ↔ (a ≡ ask.Lost)
+      lost ask.Normal = (λ z. absurd (omega arith), λ z. let y : _≡_ {A = ℕ} 0 1 = cc in absurd (omega arith))
+      lost ask.Panic = (λ z. absurd (omega arith), λ z. let y : _≡_ {A = ℕ} 0 1 = cc in absurd (omega arith))
+      lost ask.Lost = (λ z. refl, λ z. (refl, refl))
+      lost (ask.Refused n v) = (λ z. absurd (omega arith), λ z. let y : _≡_ {A = ℕ} 0 1 = cc in absurd (omega arith))
+
+-- the comparison, whose flat form also says which set
+module _ (a b : List ℕ) (f : FloeComparison) (flat : FlatAnswer (ComparedAs longest a b) flatComparison f) where
+  abbrev tests : BothTested
+  tests = in-turn (first (setRows longest a)) (first (setRows longest b))
+
+  abbrev x : CompareAnswer
+  x = flat .0 .answer
+
+  said : compare-says x ≡ tests
+  said = flat .1 .refusal
+
+  -- an answer that isn't a refusal has 0 in these fields, and a refusal's number isn't 0
+  pub compared-accepted : (f .refused ≡ 0) ↔ (tests ≡ both-passed)
+  compared-accepted = rw (flat .2) (go x said)
+    where
+      go : (x : CompareAnswer) → compare-says x ≡ tests → (flatCompared x (flat .0 .pattern) .refused ≡ 0) ↔ (tests ≡ both-passed)
+      go compare.Covers e = (λ z. sym e, λ z. refl)
+      go compare.Between e = (λ z. sym e, λ z. refl)
+      go (compare.Refused w n v) e =
+          let (which, (low, high)) = one-of (setRows longest a) (setRows longest b) (set-numbers longest a) (set-numbers longest b) (sym e) in
+          (λ z. absurd (omega arith), λ z. let y : _≡_ {A = ℕ} 0 1 = cc in absurd (omega arith))
+
+  pub compared-opens : (which n v : ℕ) → 1 ≤ n → ((f .which ≡ which) × (f .refused ≡ n) × (f .at ≡ v)) ↔ (tests ≡ one-refused which n v)
+  compared-opens which n v h = rw (flat .2) (go x said)
+    where
+      go : (x : CompareAnswer) → compare-says x ≡ tests
+          → let c = flatCompared x (flat .0 .pattern) in ((c .which ≡ which) × (c .refused ≡ n) × (c .at ≡ v)) ↔ (tests ≡ one-refused which n v)
+      go compare.Covers e = (λ (p, q, r). absurd (omega arith), λ z. let y : _≡_ {A = ℕ} 0 1 = cc in absurd (omega arith))
+      go compare.Between e = (λ (p, q, r). absurd (omega arith), λ z. let y : _≡_ {A = ℕ} 0 1 = cc in absurd (omega arith))
+      go (compare.Refused w k u) e = (λ (p, q, r). cc, λ z. let p : w ≡ which = cc in let q : k ≡ n = cc in let r : u ≡ v = cc in (p, q, r))
