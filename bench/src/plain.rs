@@ -1,4 +1,4 @@
-//! The straightforward programs: what a Rust programmer writes from 01 without further thought about speed, but
+//! The straightforward programs: what a Rust programmer writes from the rules without further thought about speed, but
 //! without waste either. None of them keeps a running count or a history: every window is looked at afresh.
 
 pub mod builder;

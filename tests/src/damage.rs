@@ -3,7 +3,7 @@
 use crate::draw::Draw;
 use crate::reference::sets;
 
-/// Values next to a bound of 01, and those that a wrong width or sign would confuse.
+/// Values next to a bound of the rules, and those that a wrong width or sign would confuse.
 const TELLING: [u8; 16] = [0, 1, 2, 3, 4, 5, 7, 8, 9, 11, 12, 13, 16, 127, 128, 255];
 
 /// One to four edits. Half of the results get a true length field again, so that the later tests are reached.
@@ -31,7 +31,7 @@ fn edit(draw: &mut Draw, bytes: &mut Vec<u8>) {
     }
 }
 
-/// "Both begin with four bytes, big-endian, that count the bytes after them."
+/// "four bytes, the length field, one number that says how many bytes follow these four"
 pub fn mend_length(bytes: &mut [u8]) {
     if bytes.len() >= 4 {
         let rest = (bytes.len() - 4) as u32;

@@ -1,7 +1,7 @@
 //! The record in which an answer of the reference has to arrive.
 //!
-//! "Where a refusal's answer must still hold a set, a pattern or a guard, it is a set of count 0, a pattern of
-//! length 0 or ... a guard not lost, in state 0"; "places not used hold zeros", and so do fields an answer doesn't use.
+//! "a refused reading fills it with a set of count 0 and zeros, a refused comparison with a pattern of length 0, and a
+//! refused start with a guard that isn't lost, in state 0, told nothing"; what an answer doesn't use is zero too.
 
 use crate::floe;
 use crate::reference::compare::{Between, RefusedSet};
@@ -82,7 +82,7 @@ pub fn started(answer: Result<Guard, Refusal>) -> floe::Started {
     floe::Started { refused, at, guard: answer.map(guard).unwrap_or_default() }
 }
 
-/// "A refusal ... returns a guard unchanged": `before` is the guard that went in.
+/// "A refused ask or tell gives back the guard that came": `before`.
 pub fn told(before: Guard, answer: Result<Guard, Refusal>) -> floe::Told {
     let floe::Done { refused, at } = done(answer.map(drop));
     floe::Told { refused, at, guard: guard(answer.unwrap_or(before)) }

@@ -1,7 +1,7 @@
 //! Tests of the Floelinnet archive from outside.
 //!
-//! `reference` is 01 (rules/01-scope.md) by brute force, `floe` calls the archive, and the files under
-//! `tests/` hold the two against each other. From this folder, after `rt staticlib floelinnet` in the root:
+//! `reference` is docs/RULES.md by brute force, `floe` calls the archive, and the files under `tests/` hold the two
+//! against each other. From this folder, after `rt staticlib floelinnet` in the root:
 //!
 //!     cargo test --release --offline
 //!

@@ -1,5 +1,5 @@
 //! The reference's answer for every limit on every pattern of at most 12 jobs, worked out once, so that many
-//! sets can be tried on all of these patterns. A page has a bit for each pattern, in the order of 01.
+//! sets can be tried on all of these patterns. A page has a bit for each pattern, in the order of patterns.
 
 use std::sync::OnceLock;
 
@@ -40,7 +40,7 @@ impl Pages {
         &self.pages[self.limits.iter().position(|&l| l == limit).expect("the limit is allowed")]
     }
 
-    /// "A set keeps a pattern exactly when each of its limits does."
+    /// "A set keeps the patterns that all of its limits keep, and no others."
     fn kept(&self, set: &[Limit]) -> Page {
         let mut kept = [!0; WORDS];
         for &limit in set {

@@ -10,9 +10,10 @@ const WORK_ENTRIES: usize = 8192;
 /// Places on both sides of a lent buffer that the archive must not reach.
 const MARGIN: usize = 16;
 
-/// Builds in buffers full of chance numbers. "A refusal writes to no lent buffer ..., with one exception: a
-/// builder that got past 8 leaves the first 8,192 work entries zero, whether it then builds or gives 9. Work
-/// entries beyond those, and table bytes beyond 7+4n, are never written."
+/// Builds in buffers full of chance numbers. "Nothing that was lent is written, with one exception. A builder that is
+/// past 8, refused by none of 1 to 8, gives the first 8,192 entries of the work area back as zeros, where it builds and
+/// where it refuses by 9." "Refused or not, nothing is ever written to the entries of the work area after those 8,192,
+/// to the bytes of a table buffer after 7+4n".
 fn agree(draw: &mut Draw, set: &[u8], work_entries: usize, room: usize) -> u64 {
     let mut work: Vec<u16> = (0..work_entries + 2 * MARGIN).map(|_| draw.number() as u16).collect();
     let mut bytes: Vec<u8> = (0..room + 2 * MARGIN).map(|_| draw.byte()).collect();

@@ -66,8 +66,8 @@ fn random_pairs_literally() {
     }
 }
 
-/// "Set A covers set B when every pattern kept under A is kept under B", those of more than 12 jobs too: no walk
-/// through both tables comes to a place where only the first allows a miss.
+/// "B keeps every pattern that A keeps", those of more than 12 jobs too: no walk through both tables comes to a place
+/// where only the first allows a miss.
 #[test]
 fn covers_at_every_length() {
     let mut draw = Draw::new(23);
@@ -97,7 +97,7 @@ fn covers_by_tables(a: &[table::State], b: &[table::State]) -> bool {
     true
 }
 
-/// "A comparison tests the first set, then the second, and says which one."
+/// "for the first set and then for the second; a refusal says which of them, 1 or 2"
 #[test]
 fn refused_comparisons() {
     let mut draw = Draw::new(24);

@@ -73,7 +73,7 @@ fn all_short_patterns_on_tables_of_sets() {
     }
 }
 
-/// "eleven hits in a row bring a guard started there, and not lost, back to state 0."
+/// "Eleven hits in a row, one job less than the longest window, bring it back to state 0 unless it is lost."
 #[test]
 fn long_runs_on_tables_of_sets() {
     let mut draw = Draw::new(63);

@@ -128,7 +128,7 @@ fn outcome_bytes_that_are_no_outcomes() {
         assert_eq!(agree(&set, &pattern).refused, 13);
     }
     for byte in 0..=255 {
-        // "even if it is lost earlier"
+        // "those after the job at which it is lost too"
         agree(&[0, 0, 0, 5, 1, 1, 0, 1, 1], &[0, 0, byte]);
     }
 }

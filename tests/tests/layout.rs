@@ -1,4 +1,4 @@
-//! The records lie in memory as C-BOUNDARY.md declares them: in Rust, in C, and by the numbers that stand here.
+//! The records lie in memory as include/floelinnet.h declares them: in C, in Rust, and by the numbers that stand here.
 
 mod gcc;
 

@@ -19,7 +19,7 @@ fn every_single_limit_of_three_bytes() {
         let [_, kind, x, k] = number.to_be_bytes();
         seen[agree(&[0, 0, 0, 5, 1, 1, kind, x, k])] += 1;
     }
-    // 01's table of kinds has 3 times 90 limits with a k, and 12 without.
+    // The table of kinds allows 3 times 90 limits with a k, and 12 without.
     assert_eq!(seen[0], 282);
     assert_eq!(seen.iter().sum::<usize>(), 1 << 24);
 }

@@ -7,7 +7,7 @@ use floelinnet_tests::reference::table::{bytes, check, states, State};
 use floelinnet_tests::reference::verdict::lost;
 use floelinnet_tests::reference::{patterns_in_order, HIT, MISS};
 
-/// 01 without any machine: a state is what is kept after a pattern, as far as windows of `longest` jobs can tell.
+/// The rules with no machine: a state is what is kept after a pattern, as far as windows of `longest` jobs can tell.
 fn states_by_continuations(set: &[Limit], longest: usize) -> Vec<State> {
     let continued = |pattern: &[u8], with: &[u8]| set_keeps(set, &[pattern, with].concat());
     let future = |pattern: &[u8]| -> Vec<bool> {

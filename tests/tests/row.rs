@@ -53,7 +53,7 @@ impl Rows {
         unsafe { slice::from_raw_parts_mut(row.as_mut_ptr().cast(), row.len()) }
     }
 
-    /// The call on both. "Starting or telling one job changes its guard only": every other byte stays.
+    /// The call on both. "No other guard changes": every other byte stays.
     fn agree(&mut self, call: Call, job: usize, table: &[u8]) -> Result<Option<Answer>, Refusal> {
         let mut memory = self.memory.clone();
         let before = self.want.clone();
@@ -155,7 +155,7 @@ const SHORT: &[u8] = &[0, 0, 0, 0x0A, 1, 0, 2, 0, 1, 0, 0, 0xFF, 0xFF, 0, 0];
 const VERSION_2: &[u8] = &[0, 0, 0, 0x0B, 2, 0, 2, 0, 1, 0, 0, 0xFF, 0xFF, 0, 0];
 const COUNT_3: &[u8] = &[0, 0, 0, 0x0B, 1, 0, 3, 0, 1, 0, 0, 0xFF, 0xFF, 0, 0];
 
-/// "A call on the row tests 14 first", then 10 to 12, then 13: every choice of faults on every call. A refused start
+/// "14; then as the call on a single guard", 10 to 12, then 13: every choice of faults on every call. A refused start
 /// leaves the job's old guard, in panic or lost.
 #[test]
 fn every_choice_of_faults() {

@@ -1,4 +1,4 @@
-//! "Patterns to try" of 01, by the reference and by the archive.
+//! RULES, Patterns to try, by the reference and by the archive.
 
 use floelinnet_tests::floe;
 use floelinnet_tests::reference::limits::{panics, set_keeps, Limit};

@@ -1,9 +1,9 @@
-//! "Demands at least as much."
+//! RULES, Covers.
 
 use super::limits::{set_keeps, Limit};
 use super::{patterns_in_order, sets, Refusal};
 
-/// A refused comparison: "says which one", 1 for the first set and 2 for the second.
+/// A refused comparison: "a refusal says which of them, 1 or 2".
 #[derive(Clone, Copy, PartialEq, Eq, Debug)]
 pub struct RefusedSet {
     pub which: u8,
@@ -13,7 +13,7 @@ pub struct RefusedSet {
 /// None says that the first set covers the second.
 pub type Between = Option<Vec<u8>>;
 
-/// "A comparison tests the first set, then the second, and says which one."
+/// "as reading a set, for the first set and then for the second"
 pub fn compare(first: &[u8], second: &[u8]) -> Result<Between, RefusedSet> {
     let (a, b) = read_both(first, second)?;
     Ok(between(&a, &b))
@@ -25,8 +25,8 @@ pub fn read_both(first: &[u8], second: &[u8]) -> Result<(Vec<Limit>, Vec<Limit>)
     Ok((a, b))
 }
 
-/// "the shortest pattern kept under A and not under B, of equal lengths the one with a miss at the earliest
-/// place where they differ. It never has more than 12 jobs."
+/// "there are patterns between the two, kept by A and not by B, and the answer is the first of them in the order of
+/// patterns. It has 1 to 12 jobs"
 pub fn between(a: &[Limit], b: &[Limit]) -> Between {
     patterns_in_order(12).find(|pattern| set_keeps(a, pattern) && !set_keeps(b, pattern))
 }

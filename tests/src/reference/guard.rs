@@ -1,4 +1,4 @@
-//! The guard on a table.
+//! RULES, The guard.
 
 use super::table::{check, counts, entry};
 use super::{refuse, Refusal, HIT};
@@ -9,7 +9,7 @@ pub struct Guard {
     pub lost: bool,
 }
 
-/// "a guard not lost, in state 0, with nothing told"
+/// "a guard that isn't lost, in state 0, told nothing"
 pub const FRESH: Guard = Guard { state: 0, lost: false };
 
 #[derive(Clone, Copy, PartialEq, Eq, Debug)]
@@ -19,14 +19,14 @@ pub enum Answer {
     Lost,
 }
 
-/// "Starting a guard tests the whole table for 10 to 12." "State 0 is the start."
+/// "as the table check, the whole table", and else "a guard in state 0 that isn't lost".
 pub fn start(table: &[u8]) -> Result<Guard, Refusal> {
     check(table)?;
     Ok(FRESH)
 }
 
-/// "Ask and tell test 10, 11, the counts in 12, and the entry of the guard's state".
-/// "Ask answers normal, panic or lost." "All of this holds for a lost guard too."
+/// "10, 11, 12: n and the length field, the guard's state, then the entry of that state and no other", and else
+/// "normal, panic or lost". "A lost guard is tested like any other."
 pub fn ask(guard: Guard, table: &[u8]) -> Result<Answer, Refusal> {
     let state = entry(table, counts(table)?, usize::from(guard.state))?;
     Ok(match (guard.lost, state.miss) {
@@ -36,8 +36,8 @@ pub fn ask(guard: Guard, table: &[u8]) -> Result<Answer, Refusal> {
     })
 }
 
-/// "tell then tests 13", and returns 0 beside it. "A miss told in panic makes it lost, its state number then
-/// stays, and it is lost until the caller starts a new guard."
+/// "as ask; then 13 with 0". "Told a miss in panic, it becomes lost and keeps its state number. A lost guard stays as
+/// it is, whatever it is told".
 pub fn tell(guard: Guard, table: &[u8], outcome: u8) -> Result<Guard, Refusal> {
     let state = entry(table, counts(table)?, usize::from(guard.state))?;
     if outcome > 1 {

@@ -1,4 +1,4 @@
-//! "The trade's words": the four kinds of limit, and which patterns are kept.
+//! RULES, Limits, Kept and Panic: the four kinds of limit, and which patterns are kept.
 
 use super::{HIT, MISS};
 
@@ -9,7 +9,7 @@ pub struct Limit {
     pub k: u8,
 }
 
-/// "holds in a window of k jobs"; for RowMiss(x), "window x+1".
+/// The column "window".
 pub fn width(limit: Limit) -> usize {
     match limit.kind {
         3 => usize::from(limit.x) + 1,
@@ -17,17 +17,17 @@ pub fn width(limit: Limit) -> usize {
     }
 }
 
-/// The column "holds in a window of k jobs when".
+/// The column "holds in a window when".
 pub fn holds(limit: Limit, window: &[u8]) -> bool {
     let x = usize::from(limit.x);
     match limit.kind {
-        // "at least x hits"
+        // "x or more of its jobs are hits"
         0 => count(window, HIT) >= x,
-        // "some x hits stand in a row inside the window"
+        // "somewhere in it x hits follow each other without a miss"
         1 => (0..=window.len() - x).any(|i| count(&window[i..i + x], HIT) == x),
-        // "at most x misses"
+        // "x or fewer of its jobs are misses"
         2 => count(window, MISS) <= x,
-        // "not all of its x+1 jobs are misses"
+        // "it isn't made of misses alone"
         3 => count(window, MISS) != window.len(),
         kind => panic!("no limit has kind {kind}"),
     }
@@ -37,25 +37,25 @@ fn count(window: &[u8], outcome: u8) -> usize {
     window.iter().filter(|&&o| o == outcome).count()
 }
 
-/// "Put endless hits before and after a pattern. It is kept under a set when each window of each limit holds
-/// in the result." Beyond the hits put here every window is all hits, like the first one.
+/// "Let hits without end come before the pattern and after it. A limit keeps the pattern when it holds in every window
+/// of this two-way endless sequence". Beyond the hits put here every window is all hits, like the first one.
 pub fn keeps(limit: Limit, pattern: &[u8]) -> bool {
     let hits = vec![HIT; width(limit)];
     let around = [&hits, pattern, &hits].concat();
     around.windows(width(limit)).all(|window| holds(limit, window))
 }
 
-/// "A set keeps a pattern exactly when each of its limits does."
+/// "A set keeps the patterns that all of its limits keep, and no others."
 pub fn set_keeps(set: &[Limit], pattern: &[u8]) -> bool {
     set.iter().all(|&limit| keeps(limit, pattern))
 }
 
-/// "The outcomes so far are kept, and with one more miss they aren't."
+/// "A pattern is in panic when it is kept but would no longer be with a miss after it."
 pub fn panics(set: &[Limit], pattern: &[u8]) -> bool {
     set_keeps(set, pattern) && !set_keeps(set, &[pattern, &[MISS]].concat())
 }
 
-/// Every limit with "allowed numbers".
+/// Every limit with the "allowed numbers".
 pub fn allowed_limits() -> Vec<Limit> {
     let mut limits = Vec::new();
     for kind in 0..3 {

@@ -1,10 +1,10 @@
-//! A row of guards on one table. A refused call leaves the row as it is: the caller's copy is only changed on Ok.
+//! RULES, The row. A refused call leaves the row as it is: the caller's copy is only changed on Ok.
 
 use super::guard::{self, Answer, Guard};
 use super::{refuse, Refusal};
 
-/// "A call on the row tests 14 first": "job number, from 0, isn't below the row's count of guards, or the row
-/// has more than 16 guards".
+/// "14; then as the call on a single guard": "the job's number, from 0, isn't below the count of guards in the row, or
+/// that count is more than 16".
 fn test(row: &[Guard], job: usize) -> Result<(), Refusal> {
     if job >= row.len() || row.len() > 16 {
         return refuse(14, 0);
@@ -12,7 +12,7 @@ fn test(row: &[Guard], job: usize) -> Result<(), Refusal> {
     Ok(())
 }
 
-/// "Starting or telling one job changes its guard only".
+/// "No other guard changes".
 pub fn start(row: &mut [Guard], job: usize, table: &[u8]) -> Result<(), Refusal> {
     test(row, job)?;
     row[job] = guard::start(table)?;

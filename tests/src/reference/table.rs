@@ -1,11 +1,12 @@
-//! "Bytes of a table", the table of a set, and refusals 8 to 12.
+//! RULES, Bytes of a table and The table of a set, and refusals 8 to 12.
 
 use std::collections::HashMap;
 
 use super::limits::{set_keeps, width, Limit};
 use super::{big_endian, outcomes, patterns_in_order, refuse, sets, Refusal, HIT, MISS};
 
-/// A state: "next state on a miss, next state on a hit", None where a miss isn't allowed.
+/// A state: "two for the state that follows on a miss, two for the one that follows on a hit", None where a miss isn't
+/// allowed.
 #[derive(Clone, Copy, PartialEq, Eq, Debug)]
 pub struct State {
     pub miss: Option<usize>,
@@ -14,14 +15,14 @@ pub struct State {
 
 const WORK_ENTRIES: usize = 8192;
 
-/// "The builder tests 1 to 7, 8, 9, and else returns 7+4n", here the table itself.
+/// "as reading a set; then 8; then 9 with 7+4n", and else the table itself.
 pub fn build(set: &[u8], work_entries: usize, table_room: usize) -> Result<Vec<u8>, Refusal> {
     let limits = sets::read(set)?;
-    // "work area under 8,192 entries of 16 bits"
+    // "the work area has less than 8,192 entries of 16 bits"
     if work_entries < WORK_ENTRIES {
         return refuse(8, 0);
     }
-    // "table buffer shorter than 7+4n | 7+4n"
+    // "the buffer is too short for what must be written", with "how many bytes are needed"
     let table = bytes(&states(&limits));
     if table_room < table.len() {
         return refuse(9, table.len());
@@ -29,21 +30,21 @@ pub fn build(set: &[u8], work_entries: usize, table_room: usize) -> Result<Vec<u
     Ok(table)
 }
 
-/// "after the version, two bytes n (1 to 2,048), then n times two big-endian pairs ... The length field is 3+4n"
+/// "the length field, 3+4n", "the version, 1", "n, how many states there are", "4 for each state, from state 0 on".
 pub fn bytes(states: &[State]) -> Vec<u8> {
     let n = states.len();
     let mut bytes = (3 + 4 * n as u32).to_be_bytes().to_vec();
     bytes.push(1);
     bytes.extend((n as u16).to_be_bytes());
     for state in states {
-        // "FF FF for a miss says that a miss isn't allowed here."
+        // "FF FF as the state that follows on a miss says that no miss is allowed there."
         bytes.extend((state.miss.unwrap_or(0xFFFF) as u16).to_be_bytes());
         bytes.extend((state.hit as u16).to_be_bytes());
     }
     bytes
 }
 
-/// "The table has the fewest states with which a machine ... keeps the set's patterns."
+/// "It walks the patterns that the set keeps, and no others." "No machine that walks exactly these has fewer states."
 ///
 /// What may follow a kept pattern is settled by its last outcomes, as many as share a window with the next job:
 /// its history. Histories are one state when the same continuations are kept after them.
@@ -51,8 +52,8 @@ pub fn states(set: &[Limit]) -> Vec<State> {
     let length = set.iter().map(|&limit| width(limit)).max().expect("a set has a limit") - 1;
     let histories = Histories::new(set, length);
     let classes = histories.classes();
-    // "States are numbered by the first pattern that reaches each, shorter patterns first, and among equal
-    // lengths a miss before a hit at the first difference." Every history is itself a pattern of that length.
+    // "Each state has a first pattern, in the order of patterns, that leads to it, and the states are numbered in the
+    // order of their first patterns." Every history is itself a pattern of that length.
     let mut first_history = Vec::new();
     let mut number_of = HashMap::new();
     for pattern in patterns_in_order(length) {
@@ -86,7 +87,8 @@ impl Histories {
         Histories { length, kept, may_miss }
     }
 
-    /// "Histories shift left, take the new outcome and are masked to the window."
+    /// "With each new outcome the bits move up by one, the outcome becomes the lowest bit, and a mask drops what is
+    /// older than the history is long."
     fn push(&self, history: usize, outcome: u8) -> usize {
         (history * 2 + usize::from(outcome)) % (1 << self.length)
     }
@@ -119,7 +121,7 @@ impl Histories {
     }
 }
 
-/// "The table check tests 10 to 12, and else returns n."
+/// "10, 11, 12: n and the length field, then the entries of all states", and else "n".
 pub fn check(table: &[u8]) -> Result<usize, Refusal> {
     let n = counts(table)?;
     for state in 0..n {
@@ -128,17 +130,17 @@ pub fn check(table: &[u8]) -> Result<usize, Refusal> {
     Ok(n)
 }
 
-/// 10, 11 and "the counts in 12".
+/// 10, 11 and, of 12, "n and the length field".
 pub fn counts(table: &[u8]) -> Result<usize, Refusal> {
-    // "table has fewer than 7 bytes, or its length field isn't the count of bytes after it"
+    // "the table has under 7 bytes, or its length field isn't how many bytes follow it"
     if table.len() < 7 || big_endian(&table[0..4]) != table.len() - 4 {
         return refuse(10, 0);
     }
-    // "table's version isn't 1"
+    // "the version of the table isn't 1"
     if table[4] != 1 {
         return refuse(11, 0);
     }
-    // "n is 0 or above 2,048, length field isn't 3+4n"
+    // "n is 0 or more than 2,048; or the length field isn't 3+4n"
     let n = big_endian(&table[5..7]);
     if n == 0 || n > 2048 || big_endian(&table[0..4]) != 3 + 4 * n {
         return refuse(12, 0);
@@ -146,7 +148,7 @@ pub fn counts(table: &[u8]) -> Result<usize, Refusal> {
     Ok(n)
 }
 
-/// "a next state is n or more (FF FF on a miss excepted), or a guard's state is n or more"
+/// "a next state isn't below n, FF FF on a miss apart; or the state of a guard isn't below n"
 pub fn entry(table: &[u8], n: usize, state: usize) -> Result<State, Refusal> {
     if state >= n {
         return refuse(12, 0);
