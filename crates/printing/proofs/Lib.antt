@@ -5,3 +5,6 @@ pub mod Answers
 pub mod OneResult
 pub mod Worked
 pub mod Whole
+pub mod ReadBack
+pub mod Numbered
+pub mod Refuses
