@@ -1,4 +1,4 @@
--- A buffer of 30,732 bytes holds the whole text of every input: numbers of states have at most four digits, and so has what a refusal says. With the program's work area and table buffer no input is refused by 8 or 9. Assumes nothing.
+-- A buffer of 30,732 bytes holds the whole text of every input: numbers of states have at most four digits, and so has what a refusal says. Assumes nothing.
 use mathlib.Core.Path.{_≡_, refl, sym, ap, ap₂, _∙_, subst}
 use mathlib.Core.Logic.{dite}
 use mathlib.Core.Option.{Option, none, some}
@@ -8,11 +8,10 @@ use Prim.Native.Nat.{ℕ, zero, suc, _+_, _*_, _/_, _%_, _^_, _≤_, _<_}
 use native.Mathlib.Nat.{pow-suc}
 use native.Mathlib.Decide.{decLt}
 use native.Mathlib.Omega.{arith}
-use borrow.Author.Tests.{le-ltb}
 use lib.ListN.{length, take, drop, length-append}
 use lib.Seq.{take-all, take-at}
-use Rattle.layout.specs.Refusal.{Row, row, Tested, passed, refused, first}
-use Rattle.layout.proofs.Rows.{and-then, first-skip, first-append, passed-first, both-passed}
+use Rattle.layout.specs.Refusal.{Row, Tested, passed, refused, first}
+use Rattle.layout.proofs.Rows.{and-then, first-append, passed-first, both-passed}
 use Rattle.machines.specs.Machine.{Machine}
 use Rattle.meaning.specs.declared.LimitSet.{LimitSet}
 use Rattle.meaning.specs.Longest.{longest}
@@ -20,15 +19,12 @@ use Rattle.sets.specs.Bytes.{countOf, setOf}
 use Rattle.sets.specs.Rows.{limitsRows, headRows, setRows}
 use Rattle.sets.proofs.Accepted.{passed-head, accepted-allowed}
 use Rattle.table.specs.Bytes.{sizeOf}
-use Rattle.table.specs.Rows.{mostStates}
 use Rattle.table.specs.Writable.{Writable}
-use Rattle.classes.specs.Area.{areaSize}
 use Rattle.builder.specs.Build.{areaRow, roomRow, earlyRows}
 use Rattle.builder.proofs.BuiltTables.{canonical-writable}
 use Rattle.printing.specs.Text.{digit, decimalIn, decimal, moveText, stateLine, stateLines, tableText, refusalText, textWhen}
-use Rattle.printing.specs.Print.{longestText, inputRow, printEarly, printTests, textFor, PrintedWith, inputTests, PrintedWhole}
+use Rattle.printing.specs.Print.{longestText, inputRow, printEarly, printTests, textFor, PrintedWith}
 use Rattle.printing.proofs.Digits.{one-digit, more-digits}
-use Rattle.printing.proofs.OneResult.{tests-by-early}
 
 few-digits : (k turns n : ℕ) → n < 10 ^ suc k → length (decimalIn turns n) ≤ suc k
 unfolding decimalIn
@@ -118,17 +114,8 @@ small-set b =
     (small-first (headRows b) (omega arith, omega arith, (omega arith, omega arith, (omega arith, omega arith, (omega arith, omega arith, tt)))))
     (λ e. small-first _ (small-limits (setOf b) 0 (countOf b) (omega (arith, passed-head b e .eight))))
 
--- a last row that doesn't hold
-last-skipped : (rows : List Row) (n v : ℕ) (h : Bool) → h ≡ false → first (rows ++ row n h v ∷ []) ≡ first rows
-unfolding first
-last-skipped rows n v h e = first-append rows (row n h v ∷ []) ∙ go (first rows)
-  where
-    go : (t : Tested) → and-then t (first (row n h v ∷ [])) ≡ t
-    go passed = first-skip n v h [] e
-    go (refused k u) = refl
-
 module _ (input work work′ table table′ out out′ : List ℕ) (r : ℕ) (m : Machine) (p : PrintedWith longest input work work′ table table′ out out′ r m) where
-  early-writable : printEarly longest input work ≡ passed → Writable m
+  pub early-writable : printEarly longest input work ≡ passed → Writable m
   early-writable e =
       let s = both-passed (setRows longest input) (areaRow work ∷ []) (passed-first (inputRow input) (earlyRows longest input work) e .1) .0 in
       canonical-writable (setOf input) (accepted-allowed longest input s) m (p .canonical e)
@@ -161,21 +148,3 @@ module _ (input work work′ table table′ out out′ : List ℕ) (r : ℕ) (m 
       let l : length text ≤ length out = omega (arith, text-fits) in
       let e : r ≡ length text = omega (arith, p .returned) in
       (e, ap₂ take e (p .out-after ∙ ap (λ z. z ++ drop (length text) out) (take-all (length out) text l)) ∙ take-at text (drop (length text) out) (length text) refl)
-
-  -- with what the program lends
-  module _ (area : length work ≡ areaSize) (buffer : length table ≡ sizeOf mostStates) where
-    no-8 : printEarly longest input work ≡ inputTests longest input
-    no-8 = last-skipped (inputRow input ∷ setRows longest input) 8 0 _ (le-ltb (length work) areaSize (omega arith))
-
-    no-9 : printTests longest input work table m ≡ printEarly longest input work
-    no-9 = go (printEarly longest input work) refl
-      where
-        go : (t : Tested) → printEarly longest input work ≡ t → printTests longest input work table m ≡ printEarly longest input work
-        go passed e = last-skipped (inputRow input ∷ earlyRows longest input work) 9 _ _ (le-ltb (length table) (sizeOf (m .states)) (omega (arith, early-writable e .most)))
-        go (refused number at) e = tests-by-early longest input work table e m ∙ sym e
-
-    pub printed-whole : longestText ≤ length out → PrintedWhole longest input work work′ table table′ out out′ r
-    printed-whole h = record {
-      printed = (m, p);
-      whole = (m, (λ e. p .canonical (no-8 ∙ e), whole-text h .1 ∙ ap (λ z. textWhen z m) (no-9 ∙ no-8)));
-    }

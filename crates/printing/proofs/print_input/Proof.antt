@@ -3,7 +3,7 @@ use mathlib.Core.Path.{sym}
 use borrow.Author.Needs.{needs}
 use native.Mathlib.Omega.{arith}
 use lib.Seq.{length-take-le}
-use Rattle.printing.proofs.Whole.{printed-whole}
+use Rattle.printing.proofs.Enough.{printed-whole}
 use Rattle.printing.proofs.print_input.Statement.{statement}
 use Rattle.printing.proofs.print_input.Tie as tie
 
@@ -26,8 +26,7 @@ returns : tie.Need-returns
 returns c =
     let p = c .before .before .before .before .before .before in
     let s = p .before .before .before .before .before .before .before .before .before in
-    let (m, printed) = p .print-set .ensures in
-    printed-whole _ _ _ _ _ _ _ _ m printed (s .pre .work-room) (s .pre .table-room) (s .pre .text-room)
+    printed-whole _ _ _ _ _ _ _ _ (s .pre .work-room) (s .pre .table-room) (s .pre .text-room) (p .print-set .ensures)
 
 pub print-input-spec : {M : Type 1} → statement M
 print-input-spec =
