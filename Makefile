@@ -2,10 +2,11 @@
 # cargo the benchmarks.
 ARCHIVE = target/staticlib/libfloelinnet.a
 
-# Everything that must pass: the outside tests over the archive, then the proofs, must-fail edits and programs.
-# rt ci starts from nothing and removes target/, so it comes last, and its last line is the verdict.
+# Everything that must pass: the outside tests over the archive and the printing program, then the proofs, must-fail
+# edits and programs. rt ci starts from nothing and removes target/, so it comes last, and its last line is the verdict.
 .PHONY: test
 test: dist-links
+	rt check print_table
 	cargo test --release --offline --quiet
 	cargo run --release --offline --quiet --example recorder | diff - examples/recorder.expected
 	rt ci

@@ -20,7 +20,7 @@ use Rattle.builder.specs.Build.{earlyRows, buildRows, says, lengthWhen, WorkAft
 use Rattle.builder.proofs.BuiltTables.{built-bytes, built-checked, built-one-table}
 use Rattle.printing.specs.Text.{refusalText, textWhen}
 use Rattle.printing.specs.Cut.{held, cut, Holds}
-use Rattle.printing.specs.Print.{inputRow, printEarly, printTests, textFor, PrintedAs}
+use Rattle.printing.specs.Print.{mostInput, inputRow, printEarly, printTests, textFor, PrintedAs}
 use Rattle.printing.proofs.Texts.{text-of-one-table}
 
 -- stands where no table is asked for
@@ -28,11 +28,11 @@ no-machine : Machine
 no-machine = record { states = 0; start = 0; next = λ s o. none }
 
 module _ (input work table out out′ : List ℕ) (r : ℕ) where
-  pub printed-long : 64 < length input → Holds (refusalText 1 0) out out′ r → PrintedAs longest input work work table table out out′ r
+  pub printed-long : mostInput < length input → Holds (refusalText 1 0) out out′ r → PrintedAs longest input work work table table out out′ r
   printed-long h p =
       let size = sizeOf (no-machine .states) in
-      let e : printEarly longest input work ≡ refused 1 0 = first-here 1 0 _ (earlyRows longest input work) (lt-ltb 64 (length input) h) in
-      let f : printTests longest input work table no-machine ≡ refused 1 0 = first-here 1 0 _ (buildRows longest input work table size) (lt-ltb 64 (length input) h) in
+      let e : printEarly longest input work ≡ refused 1 0 = first-here 1 0 _ (earlyRows longest input work) (lt-ltb mostInput (length input) h) in
+      let f : printTests longest input work table no-machine ≡ refused 1 0 = first-here 1 0 _ (buildRows longest input work table size) (lt-ltb mostInput (length input) h) in
       let x = sym (ap (λ z. textWhen z no-machine) f) in (
         no-machine,
         record {
@@ -45,9 +45,9 @@ module _ (input work table out out′ : List ℕ) (r : ℕ) where
       )
 
   -- by what the builder says of an input that is short enough
-  module _ (work′ table′ : List ℕ) (short : length input ≤ 64) where
+  module _ (work′ table′ : List ℕ) (short : length input ≤ mostInput) where
     same-tests : (rows : List Row) → first (inputRow input ∷ rows) ≡ first rows
-    same-tests rows = first-skip 1 0 (ltb 64 (length input)) rows (le-ltb 64 (length input) short)
+    same-tests rows = first-skip 1 0 (ltb mostInput (length input)) rows (le-ltb mostInput (length input) short)
 
     printed-by : (a : BuildAnswer) (m : Machine) → BuiltWith longest input work work′ table table′ a m → (text : List ℕ) → text ≡ textWhen (says a) m → Holds text out out′ r
         → PrintedAs longest input work work′ table table′ out out′ r

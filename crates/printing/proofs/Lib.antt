@@ -5,3 +5,7 @@ pub mod Answers
 pub mod OneResult
 pub mod Worked
 pub mod Whole
+pub mod Enough
+pub mod ReadBack
+pub mod Numbered
+pub mod Refuses

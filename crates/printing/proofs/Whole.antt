@@ -115,7 +115,7 @@ small-set b =
     (λ e. small-first _ (small-limits (setOf b) 0 (countOf b) (omega (arith, passed-head b e .eight))))
 
 module _ (input work work′ table table′ out out′ : List ℕ) (r : ℕ) (m : Machine) (p : PrintedWith longest input work work′ table table′ out out′ r m) where
-  early-writable : printEarly longest input work ≡ passed → Writable m
+  pub early-writable : printEarly longest input work ≡ passed → Writable m
   early-writable e =
       let s = both-passed (setRows longest input) (areaRow work ∷ []) (passed-first (inputRow input) (earlyRows longest input work) e .1) .0 in
       canonical-writable (setOf input) (accepted-allowed longest input s) m (p .canonical e)

@@ -1,7 +1,7 @@
--- A text in a lent buffer: from its start, what it has beyond the buffer's end cut off, and the buffer's bytes behind the text as they were.
+-- A text in a lent buffer: from its start, what it has beyond the buffer's end cut off, and the buffer's bytes behind the text as they were; and a piece of it, added at a place.
 use mathlib.Core.Path.{_≡_}
 use mathlib.Core.List.{List, _++_}
-use Prim.Native.Nat.{ℕ, min}
+use Prim.Native.Nat.{ℕ, _+_, _-_, min}
 use lib.ListN.{length, take, drop}
 
 -- how many bytes of the text the buffer holds
@@ -17,6 +17,7 @@ pub record Holds (text lent out : List ℕ) (at : ℕ) : Type 0 where
   pub place : at ≡ held text lent
   pub bytes : out ≡ cut text lent
 
--- what a function adds to the text that a buffer holds
-abbrev pub Adds : (more out : List ℕ) → (at : ℕ) → (out′ : List ℕ) → (at′ : ℕ) → Type 0
-Adds more out at out′ at′ = (text lent : List ℕ) → Holds text lent out at → Holds (text ++ more) lent out′ at′
+-- what a function adds at a place of a buffer: as much as lies before the buffer's end. Past the end nothing is written, and the place stays.
+pub record Adds (more out : List ℕ) (at : ℕ) (out′ : List ℕ) (at′ : ℕ) : Type 0 where
+  pub place : at′ ≡ at + min (length more) (length out - at)
+  pub bytes : out′ ≡ take at out ++ (take (length out - at) more ++ drop (at + length more) out)

@@ -2,23 +2,28 @@
 -- Everything else is tested as the builder does, and the text is that of the set's own table.
 use mathlib.Core.Path.{_≡_}
 use mathlib.Core.List.{List, _∷_}
-use Prim.Native.Nat.{ℕ, _+_, _*_}
+use Prim.Native.Nat.{ℕ, _+_, _*_, _≤_}
 use lib.Dec.{ltb}
-use lib.ListN.{length}
+use lib.ListN.{length, take}
 use Rattle.layout.specs.Refusal.{Row, row, Tested, passed, first}
 use Rattle.machines.specs.Machine.{Machine}
 use Rattle.machines.specs.Canonical.{Canonical}
 use Rattle.meaning.specs.Sets.{KeptBy}
 use Rattle.sets.specs.Bytes.{setOf}
+use Rattle.sets.specs.Rows.{setRows}
 use Rattle.table.specs.Bytes.{sizeOf}
 use Rattle.table.specs.Rows.{mostStates}
+use Rattle.classes.specs.Area.{areaSize}
 use Rattle.builder.specs.Build.{earlyRows, buildRows, WorkAfter, tableWhen}
 use Rattle.printing.specs.Text.{textWhen}
 use Rattle.printing.specs.Cut.{held, cut}
 
 -- "an input over 64 bytes is refusal 1 there, whatever it holds"
+abbrev pub mostInput : ℕ
+mostInput = 64
+
 abbrev pub inputRow : List ℕ → Row
-inputRow input = row 1 (ltb 64 (length input)) 0
+inputRow input = row 1 (ltb mostInput (length input)) 0
 
 -- what is tested before the work area is used, and everything
 abbrev pub printEarly : (longest : ℕ) → (input work : List ℕ) → Tested
@@ -44,3 +49,20 @@ pub record PrintedWith (longest : ℕ) (input work work′ table table′ out ou
 
 abbrev pub PrintedAs : (longest : ℕ) → (input work work′ table table′ out out′ : List ℕ) → ℕ → Type 0
 PrintedAs longest input work work′ table table′ out out′ r = (m : Machine) × PrintedWith longest input work work′ table table′ out out′ r m
+
+-- What the program lends. "at most 65 bytes of it": one more than an input may have, so that a longer one shows. The work area and the table's buffer are enough for every set, and the text's for every text.
+pub record Lent (input : List ℕ) (size : ℕ) (work table out : List ℕ) : Type 0 where
+  pub bytes-read : length input ≡ mostInput + 1
+  pub size-read : size ≤ length input
+  pub work-room : length work ≡ areaSize
+  pub table-room : length table ≡ sizeOf mostStates
+  pub text-room : longestText ≤ length out
+
+-- what is tested of an input where no 8 and no 9 can be
+abbrev pub inputTests : (longest : ℕ) → (input : List ℕ) → Tested
+inputTests longest input = first (inputRow input ∷ setRows longest input)
+
+-- nothing of the text is cut off, and it is the set's table or a refusal by 1 to 7
+pub record PrintedWhole (longest : ℕ) (input work work′ table table′ out out′ : List ℕ) (r : ℕ) : Type 0 where
+  pub printed : PrintedAs longest input work work′ table table′ out out′ r
+  pub whole : (m : Machine) × ((inputTests longest input ≡ passed → Canonical m (KeptBy (setOf input))) × (take r out′ ≡ textWhen (inputTests longest input) m))

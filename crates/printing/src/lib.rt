@@ -4,8 +4,9 @@
 mod lines;
 mod put;
 
+ghost use lib.ListN.{take};
 ghost use Rattle.meaning.specs.Longest.{longest};
-ghost use Rattle.printing.specs.Print.{PrintedAs};
+ghost use Rattle.printing.specs.Print.{PrintedAs, Lent, PrintedWhole};
 use builder::BuildAnswer;
 
 // The most bytes of an input that are looked at.
@@ -26,4 +27,19 @@ pub fn print_set(input: &[u8], work: &mut [u16], table: &mut [u8], out: &mut [u8
         BuildAnswer::Refused { number, at } => lines::put_refusal(number, at, out, 0),
         BuildAnswer::Built(size) => lines::put_table(&table[..size], out, 0),
     }
+}
+
+// The same for the program, which reads `size` bytes, at most 65, and lends enough of everything: no text is cut, and
+// no set is refused by 8 or 9.
+pub fn print_input(
+    input: &[u8],
+    size: usize,
+    work: &mut [u16],
+    table: &mut [u8],
+    out: &mut [u8],
+) -> usize
+    requires { ⌜ Lent (now input) size (now work) (now table) (now out) ⌝ }
+    ensures { λ r. ⌜ PrintedWhole longest (take size (now (input .entry))) (now (work .entry)) (now (work .exit)) (now (table .entry)) (now (table .exit)) (now (out .entry)) (now (out .exit)) r ⌝ }
+{
+    print_set(&input[..size], work, table, out)
 }

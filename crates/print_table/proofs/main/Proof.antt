@@ -1,4 +1,4 @@
--- `print_table::main`: what is written is a part of the text's buffer. Assumes nothing.
+-- `print_table::main`: the buffers are as long as `print_input` asks, and what is written is a part of the text's. Assumes nothing.
 use mathlib.Core.Path.{sym}
 use borrow.Author.Needs.{needs}
 use native.Mathlib.Omega.{arith}
@@ -12,23 +12,20 @@ slice-aggregate-read-full c = search needs
 read-full-requires : tie.Need-read-full-requires
 read-full-requires c κs = search needs
 
-array-share-prefix-input : tie.Need-array-share-prefix-input
-array-share-prefix-input c = search needs
+slice-aggregate-print-input : tie.Need-slice-aggregate-print-input
+slice-aggregate-print-input c = search needs
 
-slice-aggregate-print-set : tie.Need-slice-aggregate-print-set
-slice-aggregate-print-set c = search needs
+slice-aggregate-print-input-2 : tie.Need-slice-aggregate-print-input-2
+slice-aggregate-print-input-2 c = search needs
 
-slice-aggregate-print-set-2 : tie.Need-slice-aggregate-print-set-2
-slice-aggregate-print-set-2 c = search needs
+slice-aggregate-print-input-3 : tie.Need-slice-aggregate-print-input-3
+slice-aggregate-print-input-3 c = search needs
 
-slice-aggregate-print-set-3 : tie.Need-slice-aggregate-print-set-3
-slice-aggregate-print-set-3 c = search needs
+slice-aggregate-print-input-4 : tie.Need-slice-aggregate-print-input-4
+slice-aggregate-print-input-4 c = search needs
 
-slice-aggregate-print-set-4 : tie.Need-slice-aggregate-print-set-4
-slice-aggregate-print-set-4 c = search needs
-
-print-set-requires : tie.Need-print-set-requires
-print-set-requires c κs = search needs
+print-input-requires : tie.Need-print-input-requires
+print-input-requires c κs = search needs
 
 array-share-prefix-text : tie.Need-array-share-prefix-text
 array-share-prefix-text c = search needs
@@ -48,12 +45,11 @@ main-spec =
     (tie.spec
     slice-aggregate-read-full
     read-full-requires
-    array-share-prefix-input
-    slice-aggregate-print-set
-    slice-aggregate-print-set-2
-    slice-aggregate-print-set-3
-    slice-aggregate-print-set-4
-    print-set-requires
+    slice-aggregate-print-input
+    slice-aggregate-print-input-2
+    slice-aggregate-print-input-3
+    slice-aggregate-print-input-4
+    print-input-requires
     array-share-prefix-text
     slice-aggregate-write-all
     write-all-requires

@@ -1,0 +1,169 @@
+//! The compiled printing program against the reference: what it writes for what it reads.
+
+use std::fs::{read, read_dir};
+use std::io::Write;
+use std::path::Path;
+use std::process::{Command, Stdio};
+use std::thread::sleep;
+use std::time::Duration;
+
+use floelinnet_tests::damage::spoilt_set;
+use floelinnet_tests::draw::{cases, Draw};
+use floelinnet_tests::reference::limits::{allowed_limits, Limit};
+use floelinnet_tests::reference::table::states;
+use floelinnet_tests::reference::{refuse, sets, Refusal};
+
+/// What `rt check print_table` makes.
+const PROGRAM: &str = concat!(env!("CARGO_MANIFEST_DIR"), "/../target/bin/print_table");
+const SETS: &str = concat!(env!("CARGO_MANIFEST_DIR"), "/../sets");
+
+/// What the program writes for an input that comes in pieces of this length, with time to read each.
+fn printed_in_pieces(input: &[u8], length: usize) -> String {
+    assert!(Path::new(PROGRAM).is_file(), "there is no {PROGRAM}: run `rt check print_table` in the root first");
+    let mut program =
+        Command::new(PROGRAM).stdin(Stdio::piped()).stdout(Stdio::piped()).stderr(Stdio::piped()).spawn().unwrap();
+    let mut stdin = program.stdin.take().unwrap();
+    for (number, piece) in input.chunks(length).enumerate() {
+        if number > 0 {
+            sleep(Duration::from_millis(20));
+        }
+        stdin.write_all(piece).unwrap();
+    }
+    drop(stdin);
+    let output = program.wait_with_output().unwrap();
+    assert!(output.status.success() && output.stderr.is_empty(), "{output:?}");
+    String::from_utf8(output.stdout).expect("the output is text")
+}
+
+fn printed(input: &[u8]) -> String {
+    printed_in_pieces(input, input.len().max(1))
+}
+
+/// "The program reads a set from standard input, at most 65 bytes of it; an input over 64 bytes is refusal 1 there,
+/// whatever it holds."
+fn judged(input: &[u8]) -> Result<Vec<Limit>, Refusal> {
+    if input.len() > 64 {
+        return refuse(1, 0);
+    }
+    sets::read(input)
+}
+
+/// "It prints for AnyHit(1,2) exactly three lines: `states 2`, `0 1 0`, `1 - 0`. A refusal prints one line, as
+/// `refused 3 at 0`."
+fn text(answer: Result<Vec<Limit>, Refusal>) -> String {
+    let set = match answer {
+        Ok(set) => set,
+        Err(refusal) => return format!("refused {} at {}\n", refusal.number, refusal.at),
+    };
+    let states = states(&set);
+    let mut text = format!("states {}\n", states.len());
+    for (number, state) in states.iter().enumerate() {
+        let miss = state.miss.map_or("-".to_owned(), |next| next.to_string());
+        text += &format!("{number} {miss} {}\n", state.hit);
+    }
+    text
+}
+
+/// The number of the refusal that is printed, 0 for a table.
+fn agree(input: &[u8]) -> u8 {
+    let answer = judged(input);
+    let number = answer.as_ref().map_or_else(|refusal| refusal.number, |_| 0);
+    assert_eq!(printed(input), text(answer), "{input:02X?}");
+    number
+}
+
+const ANY_HIT_1_2: &[u8] = &[0, 0, 0, 5, 1, 1, 0, 1, 2];
+
+#[test]
+fn worked() {
+    assert_eq!(printed(ANY_HIT_1_2), "states 2\n0 1 0\n1 - 0\n");
+    assert_eq!(printed(&[]), "refused 1 at 0\n");
+}
+
+/// One input for each refusal that the program can print.
+#[test]
+fn refusals() {
+    let rows: [(&[u8], &str); 7] = [
+        (&[0, 0, 0, 6, 1, 1, 0, 1, 2], "refused 1 at 0\n"),
+        (&[0, 0, 0, 5, 2, 1, 0, 1, 2], "refused 2 at 0\n"),
+        (&[0, 0, 0, 5, 1, 9, 0, 1, 2], "refused 3 at 0\n"),
+        (&[0, 0, 0, 5, 1, 2, 0, 1, 2], "refused 4 at 0\n"),
+        (&[0, 0, 0, 8, 1, 2, 0, 1, 2, 4, 1, 2], "refused 5 at 1\n"),
+        (&[0, 0, 0, 11, 1, 3, 0, 1, 2, 0, 1, 2, 1, 1, 13], "refused 6 at 2\n"),
+        (&[0, 0, 0, 8, 1, 2, 0, 1, 2, 3, 12, 0], "refused 7 at 1\n"),
+    ];
+    for (input, line) in rows {
+        assert_eq!(printed(input), line, "{input:02X?}");
+        agree(input);
+    }
+}
+
+/// An input of this length with a true length field, and more bytes than any set has.
+fn long(length: usize, version: u8, count: u8) -> Vec<u8> {
+    let mut input = vec![1; length];
+    input[..4].copy_from_slice(&(length as u32 - 4).to_be_bytes());
+    input[4..6].copy_from_slice(&[version, count]);
+    input
+}
+
+/// 64 bytes go to the ordinary tests, 65 don't, "whatever it holds".
+#[test]
+fn around_64_bytes() {
+    let heads = |length: usize| [long(length, 2, 8), long(length, 1, 9), long(length, 1, 8), vec![0; length]];
+    for length in [63, 64] {
+        assert_eq!(heads(length).map(|input| agree(&input)), [2, 3, 4, 1], "{length} bytes");
+    }
+    for length in [65, 66, 4096] {
+        // Those of 64 bytes and a whole set are here only the beginning of the input.
+        let beginnings = [heads(length), heads(64)].concat().into_iter().chain([ANY_HIT_1_2.to_vec()]);
+        for mut input in beginnings {
+            input.resize(length, 0);
+            assert_eq!(printed(&input), "refused 1 at 0\n", "{length} bytes, {input:02X?}");
+        }
+    }
+}
+
+#[test]
+fn every_file_of_sets() {
+    let mut tables = 0;
+    let files = read_dir(SETS).unwrap().map(|entry| entry.unwrap().path());
+    for path in files.filter(|path| path.extension().is_some_and(|kind| kind == "limits")) {
+        tables += u8::from(agree(&read(path).unwrap()) == 0);
+    }
+    assert!(tables >= 5, "{tables}");
+}
+
+/// AnyHit(6,12) has the most states, and no text of a limit alone has more lines.
+#[test]
+fn every_limit_alone() {
+    let lines = |limit: Limit| {
+        let input = sets::bytes(&[limit]);
+        assert_eq!(agree(&input), 0);
+        printed(&input).lines().count()
+    };
+    assert_eq!(lines(Limit { kind: 0, x: 6, k: 12 }), 1 + 924);
+    assert_eq!(allowed_limits().into_iter().map(lines).max(), Some(1 + 924));
+}
+
+/// A read that gives fewer bytes than were asked for is not the end of the input.
+#[test]
+fn in_pieces() {
+    for input in [ANY_HIT_1_2.to_vec(), long(64, 1, 8), long(65, 1, 8)] {
+        for length in [8, 40] {
+            assert_eq!(printed_in_pieces(&input, length), text(judged(&input)), "{input:02X?} in pieces of {length}");
+        }
+    }
+}
+
+#[test]
+fn random_sets() {
+    let mut draw = Draw::new(91);
+    for _ in 0..cases(60) {
+        assert_eq!(agree(&sets::bytes(&draw.set())), 0);
+    }
+    let mut seen = [0; 8];
+    for _ in 0..cases(600) {
+        seen[usize::from(agree(&spoilt_set(&mut draw)))] += 1;
+    }
+    assert!((1..=7).all(|number| seen[number] > 5), "{seen:?}");
+}
