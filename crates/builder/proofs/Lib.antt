@@ -2,5 +2,6 @@ pub mod Stores
 pub mod Reaching
 pub mod Holding
 pub mod Answers
+pub mod Numbers
 pub mod OneResult
 pub mod BuiltTables

@@ -20,6 +20,7 @@ use Rattle.table.specs.Bytes.{sizeOf}
 use Rattle.table.specs.Rows.{tableRows, lookRows}
 use Rattle.table.specs.Check.{CheckedAs}
 use Rattle.builder.specs.Build.{earlyRows, buildRows, BuiltAs}
+use Rattle.builder.proofs.Numbers.{build-numbers}
 use Rattle.guard.specs.declared.Guard.{Guard}
 use Rattle.guard.specs.declared.Started.{Started}
 use Rattle.guard.specs.declared.StartAnswer.the-variants as start
@@ -41,7 +42,7 @@ use Rattle.floelinnet.specs.Flat.{FlatAnswer, flatSet, flatVerdict, flatCompari
 use Rattle.demands.specs.Refusing.{RefusesFlat}
 use Rattle.demands.specs.TableOf.{TableOf}
 use Rattle.demands.specs.Guarding.{AnswersFlat}
-use Rattle.demands.proofs.Numbers.{JudgeNumber, judge-numbers, build-numbers, table-numbers, look-numbers, tell-numbers, RowNumber, row-start-numbers, row-ask-numbers, row-tell-numbers}
+use Rattle.demands.proofs.Numbers.{JudgeNumber, judge-numbers, table-numbers, look-numbers, tell-numbers, RowNumber, row-start-numbers, row-ask-numbers, row-tell-numbers}
 use Rattle.demands.proofs.Answers.{one-size}
 use Rattle.demands.proofs.FlatAnswers.{opens-refuses, set-opens, verdict-opens, compared-opens, compared-accepted, built-opens, checked-opens, start-opens, ask-opens, tell-opens, answers-flat}
 use Rattle.demands.proofs.Demand1.{ask-refuses, row-ask-refuses}

@@ -1,12 +1,11 @@
 -- Demand 1: "Every public entry judges them itself and ends. It refuses only by the numbers of the rules, in their order, and a refusal writes nothing, except that a work area already in use comes back cleared."
--- Each entry is refused exactly by the first row that holds of its table, and by no number but its own; what was lent to a refused call is as it was. (The printing program's entry: `printing/proofs/Refuses`; the boundary's flat fields: `Demand1Flat`.) That every entry ends is what the checker proves of every function. Assumes nothing.
-use mathlib.Core.Path.{_≡_, refl, sym, ap, _∙_, subst}
+-- Each entry is refused exactly by the first row that holds of its table, and by no number but its own; what was lent to a refused call is as it was. (The boundary's flat fields: `Boundary`. The printed line's, of which this file passes the theorems on: `printing/proofs/Refuses`.) That every entry ends is what the checker proves of every function. Assumes nothing.
+use mathlib.Core.Path.{_≡_, ap, _∙_, subst}
 use mathlib.Core.Logic.{_↔_}
-use mathlib.Core.List.{List, [], _∷_}
+use mathlib.Core.List.{List}
 use Prim.Native.Nat.{ℕ, _≤_}
-use native.Mathlib.Omega.{arith}
-use Rattle.layout.specs.Refusal.{Tested, passed, refused, first}
-use Rattle.layout.proofs.Rows.{and-then, first-append, first-number, from-to, passed-not-refused}
+use Rattle.layout.specs.Refusal.{passed, refused, first}
+use Rattle.layout.proofs.Rows.{from-to}
 use Rattle.patterns.specs.Outcome.{outcome}
 use Rattle.machines.specs.Machine.{Machine}
 use Rattle.machines.specs.Canonical.{Canonical}
@@ -35,7 +34,8 @@ use Rattle.table.specs.declared.TableAnswer.the-variants as check
 use Rattle.table.specs.Check.{CheckedAs}
 use Rattle.builder.specs.declared.BuildAnswer.{BuildAnswer}
 use Rattle.builder.specs.declared.BuildAnswer.the-variants as build
-use Rattle.builder.specs.Build.{roomRow, earlyRows, buildRows, tableWhen, WorkAfter, Cleared, BuiltAs}
+use Rattle.builder.specs.Build.{earlyRows, buildRows, tableWhen, Cleared, BuiltAs}
+use Rattle.builder.proofs.Numbers.{early-numbers, build-numbers, work-by-number}
 use Rattle.guard.specs.declared.Guard.{Guard}
 use Rattle.guard.specs.declared.Started.{Started}
 use Rattle.guard.specs.declared.Asked.{Asked}
@@ -49,8 +49,9 @@ use Rattle.guard.specs.declared.TellAnswer.the-variants as tell
 use Rattle.guard.specs.Guard.{StartedAs, AskedAs, tellRows, toldWhen, ToldAs}
 use Rattle.guard.specs.Row.{rowStartRows, RowStartedAs, rowAskRows, RowAskedAs, rowTellRows, RowToldAs}
 use Rattle.guard.proofs.RowLaws.{refused-start-leaves-row, refused-tell-leaves-row}
+pub use Rattle.printing.proofs.Refuses.{print-refuses, print-refused-by, refused-print-leaves-table, refused-print-leaves-work}
 use Rattle.demands.specs.Refusing.{Refuses}
-use Rattle.demands.proofs.Numbers.{WriteNumber, write-numbers, JudgeNumber, judge-numbers, early-numbers, build-numbers, table-numbers, look-numbers, tell-numbers, RowNumber, row-start-numbers, row-ask-numbers, row-tell-numbers}
+use Rattle.demands.proofs.Numbers.{WriteNumber, write-numbers, JudgeNumber, judge-numbers, table-numbers, look-numbers, tell-numbers, RowNumber, row-start-numbers, row-ask-numbers, row-tell-numbers}
 use Rattle.demands.proofs.Answers.{by-set, by-written, by-judged, by-compared, one-of, by-built, one-size, by-checked, by-started, by-asked, by-told}
 
 -- Reading a set.
@@ -94,19 +95,7 @@ module _ (set work work′ table table′ : List ℕ) (r : BuildAnswer) (built :
 
     -- By 1 to 8 the work area is as it was, by 9 it is cleared.
     pub refused-build-work : (n ≤ 8 → work′ ≡ work) × (n ≡ 9 → Cleared work work′)
-    refused-build-work = go (first (earlyRows longest set work)) refl (built .1 .work-after)
-      where
-        rows : first (buildRows longest set work table (sizeOf (built .0 .states))) ≡ and-then (first (earlyRows longest set work)) (first (roomRow table (sizeOf (built .0 .states)) ∷ []))
-        rows = first-append (earlyRows longest set work) (roomRow table (sizeOf (built .0 .states)) ∷ [])
-
-        go : (t : Tested) → first (earlyRows longest set work) ≡ t → WorkAfter t work work′ → (n ≤ 8 → work′ ≡ work) × (n ≡ 9 → Cleared work work′)
-        go passed f w =
-            let nine : n ≡ 9 = first-number (λ k. k ≡ 9) (roomRow table (sizeOf (built .0 .states)) ∷ []) n v (refl, tt) (sym (rows ∙ ap (λ t. and-then t (first (roomRow table (sizeOf (built .0 .states)) ∷ []))) f) ∙ rows-refused) in
-            (λ h. absurd (omega arith), λ h. w)
-        go (refused k u) f w =
-            let same : refused k u ≡ refused n v = sym (rows ∙ ap (λ t. and-then t (first (roomRow table (sizeOf (built .0 .states)) ∷ []))) f) ∙ rows-refused in
-            let z : k ≡ n = cc in
-            (λ h. w, λ h. absurd (omega (arith, first-number (from-to 1 8) (earlyRows longest set work) k u (early-numbers longest set work) f .1)))
+    refused-build-work = work-by-number (earlyRows longest set work) table (sizeOf (built .0 .states)) (early-numbers longest set work) work work′ n v rows-refused (built .1 .work-after)
 
 -- The table check, and the guard's calls.
 pub check-refuses : (b : List ℕ) (r : TableAnswer) → CheckedAs b r → Refuses check.Refused (from-to 10 12) (first (tableRows b)) r

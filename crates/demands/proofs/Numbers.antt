@@ -15,7 +15,6 @@ use Rattle.sets.proofs.Numbers.{set-numbers, MemoryNumber, memory-numbers}
 use Rattle.verdict.specs.Judge.{judgeRows}
 use Rattle.table.specs.Bytes.{stateCount}
 use Rattle.table.specs.Rows.{countRows, entryRows, entriesRows, tableRows, lookRows}
-use Rattle.builder.specs.Build.{areaRow, roomRow, earlyRows, buildRows}
 use Rattle.guard.specs.declared.Guard.{Guard}
 use Rattle.guard.specs.Guard.{tellRows}
 use Rattle.guard.specs.Row.{guardAt, rowStartRows, rowAskRows, rowTellRows}
@@ -43,17 +42,6 @@ judge-numbers w b p =
     numbers-append JudgeNumber (setRows w b) (outcomeRows p 0)
     (numbers-among (from-to 1 7) JudgeNumber (λ n h. inl h) (setRows w b) (set-numbers w b))
     (numbers-among (λ n. n ≡ 13) JudgeNumber (λ n h. inr h) (outcomeRows p 0) (outcome-numbers p 0))
-
--- the builder: 1 to 8, and with the room 1 to 9
-pub early-numbers : (w : ℕ) (set work : List ℕ) → Numbers (from-to 1 8) (earlyRows w set work)
-early-numbers w set work =
-    numbers-append (from-to 1 8) (setRows w set) (areaRow work ∷ [])
-    (numbers-among (from-to 1 7) (from-to 1 8) (λ n (l, h). (omega arith, omega arith)) (setRows w set) (set-numbers w set)) ((omega arith, omega arith), tt)
-
-pub build-numbers : (w : ℕ) (set work table : List ℕ) (size : ℕ) → Numbers (from-to 1 9) (buildRows w set work table size)
-build-numbers w set work table size =
-    numbers-append (from-to 1 9) (earlyRows w set work) (roomRow table size ∷ [])
-    (numbers-among (from-to 1 8) (from-to 1 9) (λ n (l, h). (omega arith, omega arith)) (earlyRows w set work) (early-numbers w set work)) ((omega arith, omega arith), tt)
 
 -- a table, and one of its states
 count-numbers : (b : List ℕ) → Numbers (from-to 10 12) (countRows b)

@@ -7,5 +7,4 @@ pub mod Worked
 pub mod Whole
 pub mod Enough
 pub mod ReadBack
-pub mod Numbered
 pub mod Refuses

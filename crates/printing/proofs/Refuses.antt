@@ -1,36 +1,28 @@
 -- Demand 1 for the printing: a refusal's line is printed exactly by the first row that holds, by 1 to 9 alone. A refusal leaves the table, and the work area as it was or, by 9, cleared. Assumes nothing.
-use mathlib.Core.Path.{_≡_, refl, sym, ap, _∙_}
+use mathlib.Core.Path.{_≡_, sym, ap, _∙_}
 use mathlib.Core.Logic.{_↔_}
 use mathlib.Core.List.{List, [], _∷_, _++_}
 use Prim.Native.Nat.{ℕ, _≤_}
 use native.Mathlib.Omega.{arith}
 use lib.ListN.{length, take}
-use Rattle.layout.specs.Refusal.{Row, Tested, passed, refused, first}
+use Rattle.layout.specs.Refusal.{Row, passed, refused, first}
+use Rattle.layout.proofs.Rows.{Numbers, from-to, first-number}
 use Rattle.machines.specs.Machine.{Machine}
 use Rattle.machines.specs.Canonical.{Canonical}
 use Rattle.meaning.specs.Longest.{longest}
 use Rattle.meaning.specs.Sets.{KeptBy}
 use Rattle.sets.specs.Bytes.{setOf}
-use Rattle.sets.specs.Rows.{setRows}
 use Rattle.table.specs.Bytes.{sizeOf}
-use Rattle.builder.specs.Build.{areaRow, roomRow, earlyRows, buildRows, Cleared, WorkAfter, tableWhen}
+use Rattle.builder.specs.Build.{roomRow, earlyRows, buildRows, Cleared, tableWhen}
+use Rattle.builder.proofs.Numbers.{early-numbers, room-numbers, work-by-number}
 use Rattle.printing.specs.Text.{refusalText}
 use Rattle.printing.specs.Print.{longestText, inputRow, printEarly, printTests, PrintedAs}
-use Rattle.printing.proofs.Numbered.{Numbered, first-numbered, wider, set-numbered}
-use Rattle.printing.proofs.OneResult.{tests-by-early, tests-once}
+use Rattle.printing.proofs.OneResult.{tests-once}
 use Rattle.printing.proofs.ReadBack.{text-refuses}
 use Rattle.printing.proofs.Whole.{whole-text}
 
-numbered-append : (low high : ℕ) (a b : List Row) → Numbered low high a → Numbered low high b → Numbered low high (a ++ b)
-numbered-append low high [] b f g = g
-numbered-append low high (r ∷ a) b (l, h, f) g = (l, h, numbered-append low high a b f g)
-
-early-numbered : (input work : List ℕ) → Numbered 1 8 (inputRow input ∷ earlyRows longest input work)
-early-numbered input work = (
-  omega arith,
-  omega arith,
-  numbered-append 1 8 (setRows longest input) (areaRow work ∷ []) (wider 1 7 1 8 (omega arith) (omega arith) (setRows longest input) (set-numbered longest input)) (omega arith, omega arith, tt),
-)
+early-numbered : (input work : List ℕ) → Numbers (from-to 1 8) (inputRow input ∷ earlyRows longest input work)
+early-numbered input work = ((omega arith, omega arith), early-numbers longest input work)
 
 module _ (input work work′ table table′ out out′ : List ℕ) (r : ℕ) (printed : PrintedAs longest input work work′ table table′ out out′ r) (room : longestText ≤ length out) where
   -- for any machine that is the canonical one of the set where the tests get past 8
@@ -53,20 +45,11 @@ module _ (input work work′ table table′ out out′ : List ℕ) (r : ℕ) (pr
     abbrev late : List Row
     late = roomRow table (sizeOf (printed .0 .states)) ∷ []
 
-    pub print-refused-by : (1 ≤ n) × (n ≤ 9)
-    print-refused-by =
-        first-numbered 1 9 (early ++ late) n v (numbered-append 1 9 early late (wider 1 8 1 9 (omega arith) (omega arith) early (early-numbered input work)) (omega arith, omega arith, tt)) rows-refused
+    pub print-refused-by : from-to 1 9 n
+    print-refused-by = first-number (from-to 1 9) (early ++ late) n v (room-numbers early table (sizeOf (printed .0 .states)) (early-numbered input work)) rows-refused
 
     pub refused-print-leaves-table : table′ ≡ table
     refused-print-leaves-table = printed .1 .table-after ∙ ap (λ z. tableWhen z (printed .0) table) rows-refused
 
     pub refused-print-leaves-work : (n ≤ 8 → work′ ≡ work) × (n ≡ 9 → Cleared work work′)
-    refused-print-leaves-work = go (printEarly longest input work) refl (printed .1 .work-after)
-      where
-        go : (t : Tested) → printEarly longest input work ≡ t → WorkAfter t work work′ → (n ≤ 8 → work′ ≡ work) × (n ≡ 9 → Cleared work work′)
-        go passed e w =
-            let (l, h) = first-numbered 9 9 late n v (omega arith, omega arith, tt) (sym (tests-by-early longest input work table e (printed .0)) ∙ rows-refused) in
-            (λ q. absurd (omega arith), λ q. w)
-        go (refused k u) e w =
-            let (l, h) = first-numbered 1 8 early n v (early-numbered input work) (e ∙ sym (tests-by-early longest input work table e (printed .0)) ∙ rows-refused) in
-            (λ q. w, λ q. absurd (omega arith))
+    refused-print-leaves-work = work-by-number early table (sizeOf (printed .0 .states)) (early-numbered input work) work work′ n v rows-refused (printed .1 .work-after)
