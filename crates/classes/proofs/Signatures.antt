@@ -32,9 +32,8 @@ Firsts w w′ = (k : ℕ) → k < region → getD w′ k 0 ≡ getD w k 0
 pub sig-first : (w w′ : List ℕ) (n h : ℕ) → Firsts w w′ → 1 ≤ n → n ≤ region → h < n → sig w′ n h ≡ sig w n h
 unfolding sig
 sig-first w w′ n h f p q l =
-    let a : getD w′ h 0 ≡ getD w h 0 = f h (omega arith) in
-    let next : (o : Bool) → getD w′ (shifted (n - 1) h o) 0 ≡ getD w (shifted (n - 1) h o) 0 = λ o. f (shifted (n - 1) h o) (omega (arith, shifted-lt n h o p)) in
-    rw (a, next false, next true)
+    let below : (o : Bool) → shifted (n - 1) h o < region = λ o. omega (arith, shifted-lt n h o p) in
+    rw (f h (omega arith), f (shifted (n - 1) h false) (below false), f (shifted (n - 1) h true) (below true))
 
 -- the parts of equal signatures
 pub record PartsAlike (w : List ℕ) (n g h : ℕ) : Type 0 where

@@ -17,7 +17,7 @@ historyOf m p = number (recent p m)
 unfoldable pub shifted : (mask h : ℕ) → Bool → ℕ
 shifted mask h o = bitAnd (h * 2 + bit o) mask
 
--- the same of m outcomes, whatever the mask: the last m
+-- the same where the last m outcomes are kept: what a mask of m ones leaves
 abbrev pub pushed : ℕ → ℕ → Bool → ℕ
 pushed m h o = (h * 2 + bit o) % 2 ^ m
 

@@ -24,7 +24,7 @@ pub fn push(history: u16, hit: bool, mask: u16) -> u16
     ((history << 1) | (hit as u16)) & mask
 }
 
-// The same for histories that are indices, of n histories.
+// The same where histories are indices, and n is how many there are.
 pub fn push_index(history: usize, hit: bool, n: usize) -> usize
     requires { ⌜ (history < n) × (n ≤ 32768) ⌝ }
     ensures { λ r. ⌜ (r ≡ shifted (n - 1) history hit) × (r < n) ⌝ }

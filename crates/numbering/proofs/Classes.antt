@@ -1,4 +1,4 @@
--- The least history of a class is the least of its own class, so the classes of a set are what numbering asks for. Assumes nothing.
+-- The least history of a class is the least of its own class, so the classes of a set are ready to be numbered. Assumes nothing.
 use mathlib.Core.Path.{_≡_, sym, _∙_, subst}
 use mathlib.Core.List.{List}
 use Prim.Native.Nat.{ℕ, _^_, _≤_, _<_}
