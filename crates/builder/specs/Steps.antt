@@ -10,8 +10,9 @@ use Rattle.meaning.specs.Longest.{longest}
 use Rattle.meaning.specs.Sets.{SetAllowed, KeptBy}
 use Rattle.table.specs.Bytes.{sizeOf}
 use Rattle.classes.specs.Area.{region, Within}
+use Rattle.numbering.specs.Numbered.{numberedMachine}
 use Rattle.builder.specs.declared.BuildAnswer.{BuildAnswer}
-use Rattle.builder.specs.Rows.{tableMachine, Writable}
+use Rattle.builder.specs.Rows.{Writable}
 use Rattle.builder.specs.Build.{roomRow, says, lengthOf, lengthWhen, Cleared, tableWhen}
 
 -- histories of m outcomes are long enough for every limit of the set
@@ -26,7 +27,7 @@ pub record Histories (m n : ℕ) : Type 0 where
 
 -- the work area holds the canonical machine of the set
 pub record Held (s : LimitSet) (n : ℕ) (w w′ : List ℕ) (count : ℕ) : Type 0 where
-  pub canonical : Canonical (tableMachine n w′ count) (KeptBy s)
+  pub canonical : Canonical (numberedMachine n w′ count) (KeptBy s)
   pub writable : Writable n w′ count
   pub within : Within w w′
 

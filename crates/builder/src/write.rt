@@ -4,10 +4,10 @@ ghost use mathlib.Core.Bool.{true, false, cond};
 ghost use mathlib.Core.List.{_++_};
 ghost use Prim.Native.Nat.{_+_, _-_, _*_, _≤_, _<_};
 ghost use lib.ListN.{length, take, drop};
-ghost use Rattle.classes.specs.Area.{classAt, mayAt};
-ghost use Rattle.numbering.specs.Numbered.{numberAt};
+ghost use Rattle.classes.specs.Area.{mayAt};
+ghost use Rattle.numbering.specs.Numbered.{numberAfter, numberedMachine};
 ghost use Rattle.table.specs.Bytes.{pairBytes, rowBytes, bytesOf, sizeOf, noMiss};
-ghost use Rattle.builder.specs.Rows.{numberNext, tableMachine, headThen, Entries, Writable};
+ghost use Rattle.builder.specs.Rows.{headThen, Entries, Writable};
 use classes::MAY_MISS;
 use numbering::NUMBERS;
 use numbering::ORDER;
@@ -38,39 +38,40 @@ fn put_head(out: &mut [u8], n: usize)
     out[6] = (n % 256) as u8;
 }
 
-// The number and one of the class of a history.
-fn number_of(work: &[u16], n: usize, history: usize) -> u16
+// The number and one of the class that an outcome leads to from a history.
+fn number_after(work: &[u16], n: usize, history: usize, hit: bool) -> u16
     requires { ⌜ Entries n (now work) × (history < n) ⌝ }
-    ensures { λ r. ⌜ r ≡ numberAt (now (work .entry)) (classAt (now (work .entry)) history) ⌝ }
+    ensures { λ r. ⌜ r ≡ numberAfter (now (work .entry)) n history hit ⌝ }
 {
-    let class = (work[history] % MAY_MISS) as usize;
+    let next = history::push_index(history, hit, n);
+    let class = (work[next] % MAY_MISS) as usize;
     work[NUMBERS + class]
 }
 
 // What the table holds for a miss after a history: where it leads, or that it isn't allowed.
 fn miss_entry(work: &[u16], n: usize, history: usize) -> u16
     requires { ⌜ Entries n (now work) × (history < n) ⌝ }
-    requires { ⌜ (mayAt (now work) history ≡ true → 1 ≤ numberNext n (now work) history false) ⌝ }
-    ensures { λ r. ⌜ r ≡ cond (mayAt (now (work .entry)) history) (numberNext n (now (work .entry)) history false - 1) noMiss ⌝ }
+    requires { ⌜ (mayAt (now work) history ≡ true → 1 ≤ numberAfter (now work) n history false) ⌝ }
+    ensures { λ r. ⌜ r ≡ cond (mayAt (now (work .entry)) history) (numberAfter (now (work .entry)) n history false - 1) noMiss ⌝ }
 {
     if work[history] < MAY_MISS {
         return table::NO_MISS;
     }
-    number_of(work, n, history * 2 % n) - 1
+    number_after(work, n, history, false) - 1
 }
 
 // Where a hit leads after a history.
 fn hit_entry(work: &[u16], n: usize, history: usize) -> u16
-    requires { ⌜ Entries n (now work) × (history < n) × (1 ≤ numberNext n (now work) history true) ⌝ }
-    ensures { λ r. ⌜ r ≡ numberNext n (now (work .entry)) history true - 1 ⌝ }
+    requires { ⌜ Entries n (now work) × (history < n) × (1 ≤ numberAfter (now work) n history true) ⌝ }
+    ensures { λ r. ⌜ r ≡ numberAfter (now (work .entry)) n history true - 1 ⌝ }
 {
-    number_of(work, n, (history * 2 + 1) % n) - 1
+    number_after(work, n, history, true) - 1
 }
 
 // The rows of all states, after the head.
 fn put_rows(work: &[u16], n: usize, count: usize, out: &mut [u8])
     requires { ⌜ Writable n (now work) count × (sizeOf count ≤ length (now out)) ⌝ }
-    ensures { λ _. ⌜ now (out .exit) ≡ take 7 (now (out .entry)) ++ (rowBytes (tableMachine n (now (work .entry)) count) 0 count ++ drop (sizeOf count) (now (out .entry))) ⌝ }
+    ensures { λ _. ⌜ now (out .exit) ≡ take 7 (now (out .entry)) ++ (rowBytes (numberedMachine n (now (work .entry)) count) 0 count ++ drop (sizeOf count) (now (out .entry))) ⌝ }
 {
     let mut i = 0;
     while i < count {
@@ -85,7 +86,7 @@ fn put_rows(work: &[u16], n: usize, count: usize, out: &mut [u8])
 // The whole table. What stands past it in the buffer stays.
 pub fn write_table(work: &[u16], n: usize, count: usize, out: &mut [u8])
     requires { ⌜ Writable n (now work) count × (sizeOf count ≤ length (now out)) ⌝ }
-    ensures { λ _. ⌜ now (out .exit) ≡ bytesOf (tableMachine n (now (work .entry)) count) ++ drop (sizeOf count) (now (out .entry)) ⌝ }
+    ensures { λ _. ⌜ now (out .exit) ≡ bytesOf (numberedMachine n (now (work .entry)) count) ++ drop (sizeOf count) (now (out .entry)) ⌝ }
 {
     put_head(out, count);
     put_rows(work, n, count, out);

@@ -5,24 +5,23 @@ use mathlib.Core.List.{List}
 use Prim.Native.Nat.{ℕ, _+_, _-_, _*_, _/_, _≤_, _<_}
 use native.Mathlib.Omega.{arith}
 use borrow.Author.Tests.{lt-leb, le-leb}
-use lib.Bits.{bitAnd, and-le-r}
+use lib.Bits.{and-le-r}
 use lib.ListN.{getD}
-use Rattle.classes.specs.Area.{region, high, classAt, mayAt}
-use Rattle.classes.specs.Signature.{missed, hit, sig, bucket}
-
-pub masked-lt : (x n : ℕ) → 1 ≤ n → bitAnd x (n - 1) < n
-masked-lt x n h = omega (arith, and-le-r x (n - 1))
+use Rattle.history.specs.History.{shifted}
+use Rattle.history.proofs.Shifted.{shifted-lt}
+use Rattle.classes.specs.Area.{region, high, nextClass, mayAt}
+use Rattle.classes.specs.Signature.{sig, bucket}
 
 pub bucket-lt : (n s : ℕ) → 1 ≤ n → bucket n s < n
 unfolding bucket
-bucket-lt n s h = masked-lt (s * 40503 / 65536) n h
+bucket-lt n s h = omega (arith, and-le-r (s * 40503 / 65536) (n - 1))
 
 -- where no miss may follow, and where one may
-pub sig-blocked : (w : List ℕ) (n h : ℕ) → getD w h 0 < high → classAt w (hit n h) ≡ sig w n h
+pub sig-blocked : (w : List ℕ) (n h : ℕ) → getD w h 0 < high → nextClass w n h true ≡ sig w n h
 unfolding sig
 sig-blocked w n h l = rw (lt-leb high (getD w h 0) l) (omega arith)
 
-pub sig-open : (w : List ℕ) (n h : ℕ) → high ≤ getD w h 0 → (classAt w (missed n h) + 1) * high + classAt w (hit n h) ≡ sig w n h
+pub sig-open : (w : List ℕ) (n h : ℕ) → high ≤ getD w h 0 → (nextClass w n h false + 1) * high + nextClass w n h true ≡ sig w n h
 unfolding sig
 sig-open w n h l = rw (le-leb high (getD w h 0) l)
 
@@ -33,16 +32,14 @@ Firsts w w′ = (k : ℕ) → k < region → getD w′ k 0 ≡ getD w k 0
 pub sig-first : (w w′ : List ℕ) (n h : ℕ) → Firsts w w′ → 1 ≤ n → n ≤ region → h < n → sig w′ n h ≡ sig w n h
 unfolding sig
 sig-first w w′ n h f p q l =
-    let a : getD w′ h 0 ≡ getD w h 0 = f h (omega arith) in
-    let b : getD w′ (missed n h) 0 ≡ getD w (missed n h) 0 = f (missed n h) (omega (arith, masked-lt (h * 2) n p)) in
-    let c : getD w′ (hit n h) 0 ≡ getD w (hit n h) 0 = f (hit n h) (omega (arith, masked-lt (h * 2 + 1) n p)) in
-    rw (a, b, c)
+    let below : (o : Bool) → shifted (n - 1) h o < region = λ o. omega (arith, shifted-lt n h o p) in
+    rw (f h (omega arith), f (shifted (n - 1) h false) (below false), f (shifted (n - 1) h true) (below true))
 
 -- the parts of equal signatures
 pub record PartsAlike (w : List ℕ) (n g h : ℕ) : Type 0 where
   pub may : mayAt w g ≡ mayAt w h
-  pub misses : mayAt w g ≡ true → classAt w (missed n g) ≡ classAt w (missed n h)
-  pub hits : classAt w (hit n g) ≡ classAt w (hit n h)
+  pub misses : mayAt w g ≡ true → nextClass w n g false ≡ nextClass w n h false
+  pub hits : nextClass w n g true ≡ nextClass w n h true
 
 parts-cond : (a b : Bool) (c d e f : ℕ) → e < high → f < high → cond a ((c + 1) * high) 0 + e ≡ cond b ((d + 1) * high) 0 + f
     → (a ≡ b) × (a ≡ true → c ≡ d) × (e ≡ f)
@@ -55,15 +52,15 @@ pub sig-parts : (w : List ℕ) (n g h : ℕ) → sig w n g ≡ sig w n h → Par
 unfolding sig
 sig-parts w n g h q =
     let (a, b, c) =
-    parts-cond (mayAt w g) (mayAt w h) (classAt w (missed n g)) (classAt w (missed n h)) (classAt w (hit n g)) (classAt w (hit n h)) (omega arith) (omega arith) q in
+    parts-cond (mayAt w g) (mayAt w h) (nextClass w n g false) (nextClass w n h false) (nextClass w n g true) (nextClass w n h true) (omega arith) (omega arith) q in
     record { may = a; misses = b; hits = c }
 
 pub parts-sig : (w : List ℕ) (n g h : ℕ) → PartsAlike w n g h → sig w n g ≡ sig w n h
 unfolding sig
 parts-sig w n g h q = ap₂ (λ x y. x + y) (go (mayAt w g) (mayAt w h) (q .may) (q .misses)) (q .hits)
   where
-    go : (a b : Bool) → a ≡ b → (a ≡ true → classAt w (missed n g) ≡ classAt w (missed n h))
-        → cond a ((classAt w (missed n g) + 1) * high) 0 ≡ cond b ((classAt w (missed n h) + 1) * high) 0
+    go : (a b : Bool) → a ≡ b → (a ≡ true → nextClass w n g false ≡ nextClass w n h false)
+        → cond a ((nextClass w n g false + 1) * high) 0 ≡ cond b ((nextClass w n h false + 1) * high) 0
     go true true e f = ap (λ z. (z + 1) * high) (f refl)
     go false false e f = refl
     go true false e f = absurd (true≢false e)

@@ -3,10 +3,9 @@ use mathlib.Core.Path.{_≡_, refl, sym, ap, _∙_, subst}
 use mathlib.Core.Option.{none, some, Option·none-ne-some, Option·some-injective}
 use mathlib.Core.Bool.{Bool, true, false, cond, true≢false, false≢true}
 use mathlib.Core.List.{List}
-use Prim.Native.Nat.{ℕ, suc, _+_, _*_, _%_, _^_, _≤_, _<_}
-use native.Mathlib.Nat.{add-zero}
+use Prim.Native.Nat.{ℕ, suc, _-_, _^_, _≤_, _<_}
 use native.Mathlib.Omega.{arith}
-use lib.Bits.{and-mask}
+use lib.Pow.{pow-pos}
 use Rattle.machines.specs.Machine.{Machine}
 use Rattle.machines.specs.Same.{SameTo}
 use Rattle.machines.proofs.Rounds.{SameNext, both-blocked, both-move, same-step, same-to-sym, same-to-trans}
@@ -14,8 +13,9 @@ use Rattle.meaning.specs.declared.LimitSet.{LimitSet}
 use Rattle.history.specs.History.{pushed}
 use Rattle.history.specs.MayMiss.{mayMiss}
 use Rattle.history.specs.Machine.{historyMachine}
-use Rattle.classes.specs.Area.{classAt}
-use Rattle.classes.specs.Signature.{missed, hit, sig}
+use Rattle.history.proofs.Shifted.{shifted-pushed}
+use Rattle.classes.specs.Area.{classAt, nextClass}
+use Rattle.classes.specs.Signature.{sig}
 use Rattle.classes.specs.Stage.{Stage}
 use Rattle.classes.proofs.Converge.{pushed-lt}
 use Rattle.classes.proofs.Signatures.{PartsAlike, sig-parts, parts-sig}
@@ -40,11 +40,8 @@ module _ (M : Machine) (k : ℕ) where
   same-cond false true p q (both-blocked e f) = absurd (Option·none-ne-some q (sym f))
   same-cond false true p q (both-move c d e f t) = absurd (Option·none-ne-some c e)
 
-missed-pushed : (m h : ℕ) → missed (2 ^ m) h ≡ pushed m h false
-missed-pushed m h = and-mask (h * 2) m ∙ ap (λ z. z % 2 ^ m) (sym (add-zero (h * 2)))
-
-hit-pushed : (m h : ℕ) → hit (2 ^ m) h ≡ pushed m h true
-hit-pushed m h = and-mask (h * 2 + 1) m
+pub next-class-pushed : (w : List ℕ) (m h : ℕ) (o : Bool) → nextClass w (2 ^ m) h o ≡ classAt w (pushed m h o)
+next-class-pushed w m h o = ap (classAt w) (shifted-pushed m (2 ^ m - 1) h o (omega (arith, pow-pos m)))
 
 module _ (s : LimitSet) (m k : ℕ) (w : List ℕ) (S : Stage s m k w) where
   class-same : (x y : ℕ) → x < 2 ^ m → y < 2 ^ m → classAt w x ≡ classAt w y → SameTo (historyMachine s m) k x y
@@ -61,11 +58,13 @@ module _ (s : LimitSet) (m k : ℕ) (w : List ℕ) (S : Stage s m k w) where
       omega (arith, class-least x y hx hy t, class-least y x hy hx (same-to-sym (historyMachine s m) k x y t))
 
   -- the same of the histories after an outcome
-  pushed-same : (g h : ℕ) (o : Bool) → classAt w (pushed m g o) ≡ classAt w (pushed m h o) → SameTo (historyMachine s m) k (pushed m g o) (pushed m h o)
-  pushed-same g h o = class-same (pushed m g o) (pushed m h o) (pushed-lt m g o) (pushed-lt m h o)
+  next-same : (g h : ℕ) (o : Bool) → nextClass w (2 ^ m) g o ≡ nextClass w (2 ^ m) h o → SameTo (historyMachine s m) k (pushed m g o) (pushed m h o)
+  next-same g h o e =
+      class-same (pushed m g o) (pushed m h o) (pushed-lt m g o) (pushed-lt m h o) (sym (next-class-pushed w m g o) ∙ e ∙ next-class-pushed w m h o)
 
-  same-pushed : (g h : ℕ) (o : Bool) → SameTo (historyMachine s m) k (pushed m g o) (pushed m h o) → classAt w (pushed m g o) ≡ classAt w (pushed m h o)
-  same-pushed g h o = same-class (pushed m g o) (pushed m h o) (pushed-lt m g o) (pushed-lt m h o)
+  same-next : (g h : ℕ) (o : Bool) → SameTo (historyMachine s m) k (pushed m g o) (pushed m h o) → nextClass w (2 ^ m) g o ≡ nextClass w (2 ^ m) h o
+  same-next g h o t =
+      next-class-pushed w m g o ∙ same-class (pushed m g o) (pushed m h o) (pushed-lt m g o) (pushed-lt m h o) t ∙ sym (next-class-pushed w m h o)
 
   module _ (g h : ℕ) (hg : g < 2 ^ m) (hh : h < 2 ^ m) where
     pub sig-same : sig w (2 ^ m) g ≡ sig w (2 ^ m) h → SameTo (historyMachine s m) (suc k) g h
@@ -75,12 +74,11 @@ module _ (s : LimitSet) (m k : ℕ) (w : List ℕ) (S : Stage s m k w) where
         P = sig-parts w (2 ^ m) g h e
 
         next : (o : Bool) → SameNext (historyMachine s m) k (historyMachine s m .next g o) (historyMachine s m .next h o)
-        next true = cond-same (historyMachine s m) k true true (pushed m g true) (pushed m h true) refl (λ _.
-            pushed-same g h true (ap (classAt w) (sym (hit-pushed m g)) ∙ P .hits ∙ ap (classAt w) (hit-pushed m h)))
+        next true = cond-same (historyMachine s m) k true true (pushed m g true) (pushed m h true) refl (λ _. next-same g h true (P .hits))
         next false =
             cond-same (historyMachine s m) k (mayMiss s g) (mayMiss s h) (pushed m g false) (pushed m h false)
-            (sym (S .may g hg) ∙ P .may ∙ S .may h hh) (λ t.
-            pushed-same g h false (ap (classAt w) (sym (missed-pushed m g)) ∙ P .misses (S .may g hg ∙ t) ∙ ap (classAt w) (missed-pushed m h)))
+            (sym (S .may g hg) ∙ P .may ∙ S .may h hh)
+            (λ t. next-same g h false (P .misses (S .may g hg ∙ t)))
 
     pub same-sig : SameTo (historyMachine s m) (suc k) g h → sig w (2 ^ m) g ≡ sig w (2 ^ m) h
     same-sig t =
@@ -88,6 +86,6 @@ module _ (s : LimitSet) (m k : ℕ) (w : List ℕ) (S : Stage s m k w) where
         let (may, misses) = same-cond (historyMachine s m) k (mayMiss s g) (mayMiss s h) (pushed m g false) (pushed m h false) (same-step (historyMachine s m) k g h .0 t false) in
         parts-sig w (2 ^ m) g h (record {
           may = S .may g hg ∙ may ∙ sym (S .may h hh);
-          misses = λ a. ap (classAt w) (missed-pushed m g) ∙ same-pushed g h false (misses (sym (S .may g hg) ∙ a)) ∙ ap (classAt w) (sym (missed-pushed m h));
-          hits = ap (classAt w) (hit-pushed m g) ∙ same-pushed g h true (hits refl) ∙ ap (classAt w) (sym (hit-pushed m h));
+          misses = λ a. same-next g h false (misses (sym (S .may g hg) ∙ a));
+          hits = same-next g h true (hits refl);
         })

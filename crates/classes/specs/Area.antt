@@ -6,6 +6,7 @@ use Prim.Native.Nat.{ℕ, _-_, _*_, _%_, _^_, _≤_}
 use lib.Dec.{leb}
 use lib.ListN.{length, getD}
 use Rattle.meaning.specs.Longest.{longest}
+use Rattle.history.specs.History.{shifted}
 
 -- entries of one region: the histories at the longest window
 abbrev pub region : ℕ
@@ -21,6 +22,10 @@ high = 32768
 
 abbrev pub classAt : List ℕ → ℕ → ℕ
 classAt w h = getD w h 0 % high
+
+-- the class of the history after h and outcome o, of n histories
+abbrev pub nextClass : List ℕ → (n h : ℕ) → Bool → ℕ
+nextClass w n h o = classAt w (shifted (n - 1) h o)
 
 abbrev pub mayAt : List ℕ → ℕ → Bool
 mayAt w h = leb high (getD w h 0)

@@ -46,8 +46,8 @@ fn signature(work: &[u16], n: usize, h: usize) -> usize
     requires { ⌜ Room n (now work) × (h < n) ⌝ }
     ensures { λ r. ⌜ (r ≡ sig (now (work .entry)) n h) × (r < high * (high + 1)) ⌝ }
 {
-    let miss = class_of(work, (h * 2) & (n - 1));
-    let hit = class_of(work, (h * 2 + 1) & (n - 1));
+    let miss = class_of(work, history::push_index(h, false, n));
+    let hit = class_of(work, history::push_index(h, true, n));
     if work[h] < MAY_MISS {
         return hit;
     }

@@ -1,9 +1,9 @@
--- The lowest limit that blocks a miss: there is one result, none blocks exactly when a miss may follow, and the numbers of an allowed limit. Assumes nothing.
+-- The lowest limit that blocks a miss: none blocks exactly when a miss may follow, and the numbers of an allowed limit. Assumes nothing.
 use mathlib.Core.Path.{_≡_, sym, _∙_}
 use mathlib.Core.Logic.{dite}
 use mathlib.Core.Bool.{true, false, false≢true}
 use Prim.Native.Nat.{ℕ, zero, suc, _≤_, _<_}
-use native.Mathlib.Decide.{decLt, ℕ-discrete}
+use native.Mathlib.Decide.{ℕ-discrete}
 use native.Mathlib.Omega.{arith}
 use borrow.Author.Tests.{eq-eqb, ne-eqb}
 use lib.Dec.{eqb}
@@ -37,10 +37,3 @@ module _ (s : LimitSet) (h : ℕ) where
   blocks-may-miss i b =
       dite (ℕ-discrete i (s .count)) (λ e. eq-eqb i (s .count) e ∙ sym (none-blocks i b e))
       (λ e. ne-eqb i (s .count) e ∙ sym (one-blocks i b (omega (arith, b .within))))
-
-  blocks-le : (i j : ℕ) → Blocks s h i → Blocks s h j → j ≤ i
-  blocks-le i j b c =
-      dite (decLt i j) (λ l. absurd (false≢true (sym (b .here (omega (arith, c .within))) ∙ c .before i l))) (λ l. omega arith)
-
-  pub blocks-unique : (i j : ℕ) → Blocks s h i → Blocks s h j → i ≡ j
-  blocks-unique i j b c = omega (arith, blocks-le i j b c, blocks-le j i c b)

@@ -3,6 +3,7 @@
 use mathlib.Core.Bool.{Bool}
 use mathlib.Core.List.{List, [], _∷_}
 use Prim.Native.Nat.{ℕ, zero, suc, _+_, _*_, _/_, _%_, _^_}
+use lib.Bits.{bitAnd}
 use lib.Dec.{eqb}
 use Rattle.patterns.specs.Outcome.{bit}
 use Rattle.patterns.specs.Number.{number}
@@ -12,7 +13,11 @@ use Rattle.meaning.specs.Window.{recent}
 unfoldable pub historyOf : ℕ → List Bool → ℕ
 historyOf m p = number (recent p m)
 
--- the history after one more outcome
+-- the history after one more outcome: shifted left, the new outcome in the low bit, masked
+unfoldable pub shifted : (mask h : ℕ) → Bool → ℕ
+shifted mask h o = bitAnd (h * 2 + bit o) mask
+
+-- the same where the last m outcomes are kept: what a mask of m ones leaves
 abbrev pub pushed : ℕ → ℕ → Bool → ℕ
 pushed m h o = (h * 2 + bit o) % 2 ^ m
 

@@ -1,14 +1,14 @@
 // The history machine of a set: its state is the last outcomes in a number, the newest in the low bit.
 // A hit is always possible; whether a miss is, this crate says from the history alone, limit by limit.
 ghost use mathlib.Core.Path.{_≡_};
-ghost use Prim.Native.Nat.{ℕ, _+_, _^_, _≤_, _<_};
+ghost use Prim.Native.Nat.{_-_, _≤_, _<_};
 ghost use lib.Dec.{leb};
 ghost use Rattle.meaning.specs.Longest.{longest};
 ghost use Rattle.meaning.specs.Limit.{Allowed, ruleOf};
 ghost use Rattle.meaning.specs.Holds.{hits};
 ghost use Rattle.meaning.specs.Sets.{SetAllowed};
 ghost use Rattle.meaning.specs.Test.{hasRun};
-ghost use Rattle.history.specs.History.{pushed, newest};
+ghost use Rattle.history.specs.History.{shifted, newest};
 ghost use Rattle.history.specs.MayMiss.{mayMissUnder, mayMiss, Blocks};
 use meaning::Limit;
 use meaning::LimitSet;
@@ -19,9 +19,17 @@ pub const ALL_HITS: u16 = (1 << (meaning::LONGEST_WINDOW - 1)) - 1;
 // The history after one more outcome. `mask` is the history of hits only, for the length that is kept.
 pub fn push(history: u16, hit: bool, mask: u16) -> u16
     requires { ⌜ (history ≤ mask) × (mask < 32768) ⌝ }
-    ensures { λ r. ⌜ (r ≤ mask) × ((m : ℕ) → mask + 1 ≡ 2 ^ m → r ≡ pushed m history hit) ⌝ }
+    ensures { λ r. ⌜ (r ≡ shifted mask history hit) × (r ≤ mask) ⌝ }
 {
     ((history << 1) | (hit as u16)) & mask
+}
+
+// The same where histories are indices, and n is how many there are.
+pub fn push_index(history: usize, hit: bool, n: usize) -> usize
+    requires { ⌜ (history < n) × (n ≤ 32768) ⌝ }
+    ensures { λ r. ⌜ (r ≡ shifted (n - 1) history hit) × (r < n) ⌝ }
+{
+    push(history as u16, hit, (n - 1) as u16) as usize
 }
 
 // How many of the newest n outcomes are hits.

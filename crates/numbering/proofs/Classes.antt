@@ -1,22 +1,21 @@
--- The least history of a class is the least of its own class, so the classes of a set are what numbering asks for. Assumes nothing.
+-- The least history of a class is the least of its own class, so the classes of a set are ready to be numbered. Assumes nothing.
 use mathlib.Core.Path.{_≡_, sym, _∙_, subst}
 use mathlib.Core.List.{List}
-use Prim.Native.Nat.{ℕ, _-_, _^_, _≤_, _<_}
+use Prim.Native.Nat.{ℕ, _^_, _≤_, _<_}
 use native.Mathlib.Omega.{arith}
 use lib.ListN.{length}
-use lib.Pow.{pow-pos, pow-mono}
+use lib.Pow.{pow-pos}
 use Rattle.machines.specs.Same.{Same}
 use Rattle.machines.proofs.Rounds.{same-trans}
-use Rattle.meaning.specs.Longest.{longest}
 use Rattle.meaning.specs.declared.LimitSet.{LimitSet}
 use Rattle.history.specs.Machine.{historyMachine}
 use Rattle.classes.specs.Area.{region, areaSize, classAt}
 use Rattle.classes.specs.Classed.{Classed}
-use Rattle.numbering.specs.Work.{Ready, Kept}
+use Rattle.numbering.specs.Work.{OfSomeSet, Ready, Kept}
 use Rattle.numbering.proofs.Keeping.{class-stays, may-stays}
 
 module _ (s : LimitSet) (m : ℕ) (w : List ℕ) (C : Classed s m w) where
-  pub classed-idem : (h : ℕ) → h < 2 ^ m → classAt w (classAt w h) ≡ classAt w h
+  classed-idem : (h : ℕ) → h < 2 ^ m → classAt w (classAt w h) ≡ classAt w h
   classed-idem h l =
       let c = classAt w h in
       let cl : c < 2 ^ m = omega (arith, C .no-greater h l) in
@@ -28,15 +27,6 @@ module _ (s : LimitSet) (m : ℕ) (w : List ℕ) (C : Classed s m w) where
         C .least d h dl l (same-trans (historyMachine s m) d c h (C .same c cl) (C .same h l)),
       )
 
-  pub classed-ready : (n : ℕ) → n ≡ 2 ^ m → m ≤ longest - 1 → areaSize ≤ length w → Ready n w
-  classed-ready n e l r = subst (λ k. Ready k w) (sym e) (record {
-    some-history = pow-pos m;
-    fits = pow-mono l;
-    room = r;
-    no-greater = C .no-greater;
-    own-class = classed-idem;
-  })
-
   pub classed-kept : (w′ : List ℕ) → Kept w w′ → 2 ^ m ≤ region → Classed s m w′
   classed-kept w′ K fits = record {
     may = λ h l. may-stays (2 ^ m) w w′ K fits h l ∙ C .may h l;
@@ -47,3 +37,12 @@ module _ (s : LimitSet) (m : ℕ) (w : List ℕ) (C : Classed s m w) where
     where
       stays : (h : ℕ) → h < 2 ^ m → classAt w′ h ≡ classAt w h
       stays = class-stays (2 ^ m) w w′ K fits
+
+pub classed-ready : (n : ℕ) (w : List ℕ) → n ≤ region → areaSize ≤ length w → OfSomeSet n w → Ready n w
+classed-ready n w fits room (s, m, e, C) = record {
+  some-history = omega (arith, pow-pos m);
+  fits = fits;
+  room = room;
+  no-greater = λ h l. C .no-greater h (omega arith);
+  own-class = λ h l. classed-idem s m w C h (omega arith);
+}

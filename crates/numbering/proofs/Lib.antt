@@ -6,3 +6,4 @@ pub mod Start
 pub mod Table
 pub mod Classes
 pub mod Promise
+pub mod OneResult

@@ -3,19 +3,19 @@ use mathlib.Core.Path.{_≡_, refl, sym, ap, _∙_, subst}
 use mathlib.Core.Option.{none, some, Option·none-ne-some}
 use mathlib.Core.Bool.{Bool, true, false, cond}
 use mathlib.Core.List.{List}
-use Prim.Native.Nat.{ℕ, _+_, _-_, _*_, _^_, _≤_, _<_}
-use native.Mathlib.Nat.{mod-lt}
+use Prim.Native.Nat.{ℕ, _-_, _^_, _≤_, _<_}
 use native.Mathlib.Omega.{arith}
 use lib.Pow.{pow-pos}
-use Rattle.patterns.specs.Outcome.{bit}
 use Rattle.machines.specs.Same.{Same}
 use Rattle.machines.specs.Numbering.{place}
 use Rattle.machines.proofs.Rounds.{same-sym}
 use Rattle.meaning.specs.declared.LimitSet.{LimitSet}
 use Rattle.history.specs.History.{pushed}
 use Rattle.history.specs.Machine.{historyNext, historyMachine}
-use Rattle.classes.specs.Area.{classAt}
+use Rattle.classes.specs.Area.{classAt, nextClass}
 use Rattle.classes.specs.Classed.{Classed}
+use Rattle.classes.proofs.Converge.{pushed-lt}
+use Rattle.classes.proofs.Told.{next-class-pushed}
 use Rattle.numbering.specs.Numbered.{numberAt, classOf, numberAfter, moveOf, Numbered}
 use Rattle.numbering.specs.Work.{Kept, NumberedFrom}
 use Rattle.numbering.specs.Rows.{possible, Leads, Numbering}
@@ -34,27 +34,28 @@ module _ (m : ℕ) (w : List ℕ) (count : ℕ) (N : Numbering (2 ^ m) w count (
   history-move j false l =
       ap (λ b. cond b (some (pushed m (classOf w j) false)) none) (sym (C .may (classOf w j) (N .ordered .histories j l)))
 
-  blocked : (j : ℕ) (o : Bool) → j < count → moveOf w m (classOf w j) o ≡ none → historyNext s m (classOf w j) o ≡ none
+  blocked : (j : ℕ) (o : Bool) → j < count → moveOf w (2 ^ m) (classOf w j) o ≡ none → historyNext s m (classOf w j) o ≡ none
   blocked j o l e =
-      let d = none-where-false (possible w (classOf w j) o) (numberAfter w m (classOf w j) o - 1)
-      (sym (move-where-possible w m (classOf w j) o) ∙ e) in
+      let d = none-where-false (possible w (classOf w j) o) (numberAfter w (2 ^ m) (classOf w j) o - 1)
+      (sym (move-where-possible w (2 ^ m) (classOf w j) o) ∙ e) in
       history-move j o l ∙ ap (λ b. cond b (some (pushed m (classOf w j) o)) none) d
 
   -- the class that an outcome leads to is that of the history after it
   class-led : (j t : ℕ) (o : Bool) → Leads (2 ^ m) w j t o → classOf w t ≡ classAt w (pushed m (classOf w j) o)
   class-led j t o L =
-      let c = classAt w (pushed m (classOf w j) o) in
+      let c = nextClass w (2 ^ m) (classOf w j) o in
       let e : numberAt w c - 1 ≡ t = omega (arith, L .there) in
       ap (classOf w) (sym e) ∙ N .ordered .class-of-number c (class-after-below (N .ready) j o) (omega (arith, L .there))
+      ∙ next-class-pushed w m (classOf w j) o
 
-  moves : (j t : ℕ) (o : Bool) → j < count → moveOf w m (classOf w j) o ≡ some t
+  moves : (j t : ℕ) (o : Bool) → j < count → moveOf w (2 ^ m) (classOf w j) o ≡ some t
       → (u : ℕ) × (historyNext s m (classOf w j) o ≡ some u) × Same (historyMachine s m) (classOf w t) u
   moves j t o l e =
-      let L = move-leads m w count N j t o l e in
+      let L = move-leads (2 ^ m) w count N j t o l e in
       let u = pushed m (classOf w j) o in (
         u,
         history-move j o l ∙ ap (λ b. cond b (some u) none) (L .may),
-        subst (λ c. Same (historyMachine s m) c u) (sym (class-led j t o L)) (C .same u (mod-lt (classOf w j * 2 + bit o) (pow-pos m))),
+        subst (λ c. Same (historyMachine s m) c u) (sym (class-led j t o L)) (C .same u (pushed-lt m (classOf w j) o)),
       )
 
   -- of two classes that are the same each is no greater than the other
@@ -73,8 +74,8 @@ module _ (m : ℕ) (w : List ℕ) (count : ℕ) (N : Numbering (2 ^ m) w count (
   numbered = record {
     some-state = N .some-state;
     no-more = omega (arith, N .ordered .rest-free);
-    well-made = well-made m w count N;
-    at-sight = at-sight m w count N;
+    well-made = well-made (2 ^ m) w count N;
+    at-sight = at-sight (2 ^ m) w count N;
     stands = record {
       start = subst (λ c. Same (historyMachine s m) c (2 ^ m - 1)) (sym (N .start)) (C .same (2 ^ m - 1) (omega (arith, pow-pos m)));
       blocked = blocked;
@@ -82,8 +83,8 @@ module _ (m : ℕ) (w : List ℕ) (count : ℕ) (N : Numbering (2 ^ m) w count (
       apart = apart;
     };
     histories = N .ordered .histories;
-    hits-numbered = λ j l. (number-at-least-1 m w count N j true l refl, number-at-most-count m w count N j true);
-    misses-numbered = λ j l a. (number-at-least-1 m w count N j false l a, number-at-most-count m w count N j false);
+    hits-numbered = λ j l. (number-at-least-1 (2 ^ m) w count N j true l refl, number-at-most-count (2 ^ m) w count N j true);
+    misses-numbered = λ j l a. (number-at-least-1 (2 ^ m) w count N j false l a, number-at-most-count (2 ^ m) w count N j false);
   }
 
 pub numbered-from : (n : ℕ) (w w′ : List ℕ) (count p : ℕ) → Kept w w′ → Numbering n w′ count p → p ≡ place count false

@@ -3,14 +3,14 @@ use mathlib.Core.Path.{_≡_, refl, sym, ap, _∙_}
 use mathlib.Core.Logic.{dite}
 use mathlib.Core.Bool.{Bool, true, false}
 use mathlib.Core.List.{List}
-use Prim.Native.Nat.{ℕ, _+_, _-_, _*_, _%_, _≤_, _<_}
+use Prim.Native.Nat.{ℕ, _+_, _-_, _≤_, _<_}
 use native.Mathlib.Decide.{decLt}
-use native.Mathlib.Nat.{mod-lt}
 use native.Mathlib.Omega.{arith}
-use Rattle.patterns.specs.Outcome.{bit}
 use Rattle.patterns.proofs.Numbers.{bit-le}
 use Rattle.machines.specs.Numbering.{place}
-use Rattle.classes.specs.Area.{classAt}
+use Rattle.history.specs.History.{shifted}
+use Rattle.history.proofs.Shifted.{shifted-lt}
+use Rattle.classes.specs.Area.{nextClass}
 use Rattle.numbering.specs.Numbered.{numberAt, classOf}
 use Rattle.numbering.specs.Work.{Ready}
 use Rattle.numbering.specs.Rows.{Visited, possible, classAfter, Leads, Found, Numbering, ReadTo}
@@ -25,8 +25,8 @@ place-one s r false true e = absurd (omega arith)
 
 pub class-after-below : {n : ℕ} {w : List ℕ} → Ready n w → (s : ℕ) (o : Bool) → classAfter n w s o < n
 class-after-below {n} {w} R s o =
-    let l = mod-lt (classOf w s * 2 + bit o) (R .some-history) in
-    omega (arith, R .no-greater ((classOf w s * 2 + bit o) % n) l)
+    let l = shifted-lt n (classOf w s) o (R .some-history) in
+    omega (arith, R .no-greater (shifted (n - 1) (classOf w s) o) l)
 
 row-no-later : (s r : ℕ) (o x : Bool) → place s o < place r x → s ≤ r
 row-no-later s r o x l = omega (arith, bit-le x)
@@ -64,9 +64,9 @@ module _ (n : ℕ) (w w′ : List ℕ) (count r i : ℕ) (o : Bool) (N : Numberi
     (may : possible w (classOf w i) o ≡ true) (G : Visited n w w′ (classAfter n w i o) count r) where
   after-stays : (s : ℕ) (x : Bool) → s < count → classAfter n w′ s x ≡ classAfter n w s x
   after-stays s x l =
-      ap (λ c. classAt w′ ((c * 2 + bit x) % n)) (G .order-stays s l)
-      ∙ class-stays n w w′ (G .kept) (N .ready .fits) ((classOf w s * 2 + bit x) % n)
-      (mod-lt (classOf w s * 2 + bit x) (N .ready .some-history))
+      ap (λ c. nextClass w′ n c x) (G .order-stays s l)
+      ∙ class-stays n w w′ (G .kept) (N .ready .fits) (shifted (n - 1) (classOf w s) x)
+      (shifted-lt n (classOf w s) x (N .ready .some-history))
 
   outcome-stays : (s : ℕ) (x : Bool) → s < count → possible w′ (classOf w′ s) x ≡ possible w (classOf w s) x
   outcome-stays s x l =

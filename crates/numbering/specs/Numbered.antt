@@ -8,9 +8,8 @@ use lib.ListN.{getD}
 use Rattle.machines.specs.Machine.{Machine, WellMade}
 use Rattle.machines.specs.Numbering.{NumberedAtSight, StandsFor}
 use Rattle.meaning.specs.declared.LimitSet.{LimitSet}
-use Rattle.history.specs.History.{pushed}
 use Rattle.history.specs.Machine.{historyMachine}
-use Rattle.classes.specs.Area.{region, classAt, mayAt}
+use Rattle.classes.specs.Area.{region, nextClass, mayAt}
 
 -- the number of class c and one, 0 where it has none
 abbrev pub numberAt : List ℕ → ℕ → ℕ
@@ -20,25 +19,25 @@ numberAt w c = getD w (2 * region + c) 0
 abbrev pub classOf : List ℕ → ℕ → ℕ
 classOf w j = getD w (3 * region + j) 0
 
--- the number of the class that outcome o leads to from history h, and one
-abbrev pub numberAfter : List ℕ → (m h : ℕ) → Bool → ℕ
-numberAfter w m h o = numberAt w (classAt w (pushed m h o))
+-- the number of the class that outcome o leads to from history h, of n histories, and one
+abbrev pub numberAfter : List ℕ → (n h : ℕ) → Bool → ℕ
+numberAfter w n h o = numberAt w (nextClass w n h o)
 
-abbrev pub moveOf : List ℕ → (m h : ℕ) → Bool → Option ℕ
-moveOf w m h true = some (numberAfter w m h true - 1)
-moveOf w m h false = cond (mayAt w h) (some (numberAfter w m h false - 1)) none
+abbrev pub moveOf : List ℕ → (n h : ℕ) → Bool → Option ℕ
+moveOf w n h true = some (numberAfter w n h true - 1)
+moveOf w n h false = cond (mayAt w h) (some (numberAfter w n h false - 1)) none
 
 -- the machine that the work area writes
-abbrev pub numberedMachine : (m : ℕ) → List ℕ → (count : ℕ) → Machine
-numberedMachine m w count = record { states = count; start = 0; next = λ j o. moveOf w m (classOf w j) o }
+abbrev pub numberedMachine : (n : ℕ) → List ℕ → (count : ℕ) → Machine
+numberedMachine n w count = record { states = count; start = 0; next = λ j o. moveOf w n (classOf w j) o }
 
 pub record Numbered (s : LimitSet) (m : ℕ) (w : List ℕ) (count : ℕ) : Type 0 where
   pub some-state : 1 ≤ count
   pub no-more : count ≤ 2 ^ m
-  pub well-made : WellMade (numberedMachine m w count)
-  pub at-sight : NumberedAtSight (numberedMachine m w count)
-  pub stands : StandsFor (numberedMachine m w count) (historyMachine s m) (classOf w)
+  pub well-made : WellMade (numberedMachine (2 ^ m) w count)
+  pub at-sight : NumberedAtSight (numberedMachine (2 ^ m) w count)
+  pub stands : StandsFor (numberedMachine (2 ^ m) w count) (historyMachine s m) (classOf w)
   -- what the writer of the table reads
   pub histories : (j : ℕ) → j < count → classOf w j < 2 ^ m
-  pub hits-numbered : (j : ℕ) → j < count → (1 ≤ numberAfter w m (classOf w j) true) × (numberAfter w m (classOf w j) true ≤ count)
-  pub misses-numbered : (j : ℕ) → j < count → mayAt w (classOf w j) ≡ true → (1 ≤ numberAfter w m (classOf w j) false) × (numberAfter w m (classOf w j) false ≤ count)
+  pub hits-numbered : (j : ℕ) → j < count → (1 ≤ numberAfter w (2 ^ m) (classOf w j) true) × (numberAfter w (2 ^ m) (classOf w j) true ≤ count)
+  pub misses-numbered : (j : ℕ) → j < count → mayAt w (classOf w j) ≡ true → (1 ≤ numberAfter w (2 ^ m) (classOf w j) false) × (numberAfter w (2 ^ m) (classOf w j) false ≤ count)

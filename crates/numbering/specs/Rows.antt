@@ -2,10 +2,9 @@
 use mathlib.Core.Path.{_≡_}
 use mathlib.Core.Bool.{Bool, true, false}
 use mathlib.Core.List.{List}
-use Prim.Native.Nat.{ℕ, zero, suc, _+_, _-_, _*_, _%_, _≤_, _<_}
-use Rattle.patterns.specs.Outcome.{bit}
+use Prim.Native.Nat.{ℕ, zero, suc, _+_, _-_, _≤_, _<_}
 use Rattle.machines.specs.Numbering.{place}
-use Rattle.classes.specs.Area.{classAt, mayAt}
+use Rattle.classes.specs.Area.{classAt, nextClass, mayAt}
 use Rattle.numbering.specs.Numbered.{numberAt, classOf}
 use Rattle.numbering.specs.Work.{Ready, Kept}
 
@@ -45,7 +44,7 @@ possible w h false = mayAt w h
 
 -- the class that outcome o leads to from row s, with n histories
 abbrev pub classAfter : (n : ℕ) → List ℕ → ℕ → Bool → ℕ
-classAfter n w s o = classAt w ((classOf w s * 2 + bit o) % n)
+classAfter n w s o = nextClass w n (classOf w s) o
 
 -- row s leads to state t under outcome o
 pub record Leads (n : ℕ) (w : List ℕ) (s t : ℕ) (o : Bool) : Type 0 where

@@ -8,6 +8,10 @@ use Rattle.classes.specs.Area.{region, areaSize, classAt, Within}
 use Rattle.classes.specs.Classed.{Classed}
 use Rattle.numbering.specs.Numbered.{Numbered}
 
+-- n histories have the classes of some set
+abbrev pub OfSomeSet : (n : ℕ) → List ℕ → Type 0
+OfSomeSet n w = (s : LimitSet) × (m : ℕ) × (n ≡ 2 ^ m) × Classed s m w
+
 -- each of n histories has a class no greater than it, which is its own class
 pub record Ready (n : ℕ) (w : List ℕ) : Type 0 where
   pub some-history : 1 ≤ n

@@ -2,11 +2,11 @@
 // The first region of the work area has the classes of n histories; the third and the fourth are written.
 ghost use mathlib.Core.Path.{_≡_};
 ghost use mathlib.Core.Bool.{false};
-ghost use Prim.Native.Nat.{_+_, _<_};
+ghost use Prim.Native.Nat.{_+_, _≤_, _<_};
 ghost use lib.ListN.{length};
 ghost use Rattle.machines.specs.Numbering.{place};
-ghost use Rattle.classes.specs.Area.{classAt};
-ghost use Rattle.numbering.specs.Work.{Ready, NumberedFrom};
+ghost use Rattle.classes.specs.Area.{region, areaSize, classAt};
+ghost use Rattle.numbering.specs.Work.{OfSomeSet, Ready, NumberedFrom};
 ghost use Rattle.numbering.specs.Rows.{Ordered, Visited, possible, Numbering, ReadTo, Cleared};
 use classes::MAY_MISS;
 
@@ -57,7 +57,7 @@ fn follow(n: usize, work: &mut [u16], i: usize, hit: bool, count: usize) -> usiz
 {
     let class = work[ORDER + i] as usize;
     if may_follow(work, class, hit) {
-        return visit(n, work, (class * 2 + hit as usize) % n, count);
+        return visit(n, work, history::push_index(class, hit, n), count);
     }
     count
 }
@@ -73,7 +73,7 @@ fn visit_start(n: usize, work: &mut [u16]) -> usize
 
 // Numbers every class that is reached, and returns how many they are.
 pub fn number(n: usize, work: &mut [u16]) -> usize
-    requires { ⌜ Ready n (now work) ⌝ }
+    requires { ⌜ (n ≤ region) × (areaSize ≤ length (now work)) × OfSomeSet n (now work) ⌝ }
     ensures { λ r. ⌜ NumberedFrom n (now (work .entry)) (now (work .exit)) r ⌝ }
 {
     let mut count = visit_start(n, work);

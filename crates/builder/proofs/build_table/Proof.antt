@@ -1,6 +1,6 @@
 -- `builder::build_table`: each way out by its law. Assumes nothing.
 use borrow.Author.Needs.{needs}
-use Rattle.builder.specs.Rows.{tableMachine}
+use Rattle.numbering.specs.Numbered.{numberedMachine}
 use Rattle.builder.proofs.Answers.{clear-within, short-table, whole-table}
 use Rattle.builder.proofs.build_table.Statement.{statement}
 use Rattle.builder.proofs.build_table.Tie as tie
@@ -33,7 +33,7 @@ returns c =
     let s = h .before .before .before .before .before .before in
     let n = h .before .before .histories .result in
     let w = h .number-states .last .1 .1 .1 .0 in
-    let m = tableMachine n w (h .number-states .result) in (
+    let m = numberedMachine n w (h .number-states .result) in (
       m,
       short-table (s .args .set) (s .args .work .now) (k .clear .last .0) (s .args .table .now) m (h .number-states .ensures .canonical)
           (clear-within (s .args .work .now) w (k .clear .last .0) (h .number-states .ensures .within) (k .clear .ensures)) (k .before .before .if1 .taken),
@@ -60,7 +60,7 @@ returns-2 c =
     let s = h .before .before .before .before .before .before in
     let n = h .before .before .histories .result in
     let w = h .number-states .last .1 .1 .1 .0 in
-    let m = tableMachine n w (h .number-states .result) in (
+    let m = numberedMachine n w (h .number-states .result) in (
       m,
       whole-table (s .args .set) (s .args .work .now) (k .clear2 .last .0) (s .args .table .now) m (h .number-states .ensures .canonical)
           (clear-within (s .args .work .now) w (k .clear2 .last .0) (h .number-states .ensures .within) (k .clear2 .ensures)) _ (i .if1 .left) (t .write-table .ensures),

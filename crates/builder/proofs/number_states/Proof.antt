@@ -1,6 +1,7 @@
 -- `builder::number_states`: the classes, and then their numbers. Assumes nothing.
+use native.Mathlib.Omega.{arith}
 use borrow.Author.Needs.{needs}
-use Rattle.builder.proofs.Holding.{ready-of, held-of}
+use Rattle.builder.proofs.Holding.{held-of}
 use Rattle.builder.proofs.number_states.Statement.{statement}
 use Rattle.builder.proofs.number_states.Tie as tie
 
@@ -11,7 +12,7 @@ number-requires : tie.Need-number-requires
 number-requires c κs =
     let k = c .before .before .before in
     let s = k .before .before .before in
-    ready-of (s .args .set) (s .args .m) (s .pre .1) (s .args .work .now) (k .classes .last .1 .1 .1 .0) (k .classes .last .1 .1 .1 .0) 0 (s .pre .3) (k .classes .ensures .1) (k .classes .ensures .0) (s .args .n) (s .pre .2 .power)
+    (omega arith, omega (arith, k .classes .ensures .1 .length-stays), (s .args .set, s .args .m, s .pre .2 .power, k .classes .ensures .0))
 
 same-length : tie.Need-same-length
 same-length c = search needs

@@ -1,36 +1,23 @@
--- `classes::signature`: both next histories lie in the first region, and the bit of h picks the case of the definition. Assumes nothing.
-use mathlib.Core.Path.{_∙_}
-use Prim.Native.Nat.{_+_, _*_}
+-- `classes::signature`: both next histories are among the n, and the bit of h picks the case of the definition. Assumes nothing.
+use mathlib.Core.Path.{ap, _∙_}
 use native.Mathlib.Omega.{arith}
 use borrow.Author.Needs.{needs}
-use Rattle.classes.proofs.Signatures.{masked-lt, sig-blocked, sig-open}
+use Rattle.classes.specs.Area.{classAt}
+use Rattle.classes.proofs.Signatures.{sig-blocked, sig-open}
 use Rattle.classes.proofs.signature.Statement.{statement}
 use Rattle.classes.proofs.signature.Tie as tie
 
-mul-class-of : tie.Need-mul-class-of
-mul-class-of c = search needs
-
-sub-class-of : tie.Need-sub-class-of
-sub-class-of c = search needs
+push-index-requires : tie.Need-push-index-requires
+push-index-requires c κs = search needs
 
 class-of-requires : tie.Need-class-of-requires
-class-of-requires c κs =
-    let s = c .before in
-    omega (arith, masked-lt (s .args .h * 2) (s .args .n) (s .pre .0 .some-history))
+class-of-requires c κs = search needs
 
-mul-class-of-2 : tie.Need-mul-class-of-2
-mul-class-of-2 c = search needs
-
-add-class-of : tie.Need-add-class-of
-add-class-of c = search needs
-
-sub-class-of-2 : tie.Need-sub-class-of-2
-sub-class-of-2 c = search needs
+push-index-requires-2 : tie.Need-push-index-requires-2
+push-index-requires-2 c κs = search needs
 
 class-of-requires-2 : tie.Need-class-of-requires-2
-class-of-requires-2 c κs =
-    let s = c .before .before in
-    omega (arith, masked-lt (s .args .h * 2 + 1) (s .args .n) (s .pre .0 .some-history))
+class-of-requires-2 c κs = search needs
 
 mul-if1 : tie.Need-mul-if1
 mul-if1 c = search needs
@@ -40,8 +27,12 @@ shared-slice-read-if1 c = search needs
 
 returns : tie.Need-returns
 returns c =
-    let s = c .before .before .before .before .before in
-    (c .before .before .class-of2 .ensures .0 ∙ sig-blocked (s .args .work .now) (s .args .n) (s .args .h) (c .if1 .taken), omega arith)
+    let p = c .before .before .before in
+    let a = p .before .before .before .before .args in
+    let w = a .work .now in (
+      c .before .before .class-of2 .ensures .0 ∙ ap (classAt w) (p .push-index2 .ensures .0) ∙ sig-blocked w (a .n) (a .h) (c .if1 .taken),
+      omega arith,
+    )
 
 add-result : tie.Need-add-result
 add-result c = search needs
@@ -57,19 +48,26 @@ add-result-2 c = search needs
 
 returns-2 : tie.Need-returns-2
 returns-2 c =
-    let s = c .before .before .before .before .before in
-    (omega (arith, sig-open (s .args .work .now) (s .args .n) (s .args .h) (c .if1 .left)), omega arith)
+    let p = c .before .before .before in
+    let q = p .before .before in
+    let a = q .before .before .args in
+    let w = a .work .now in (
+      omega (
+        arith,
+        ap (classAt w) (q .push-index .ensures .0),
+        ap (classAt w) (p .push-index2 .ensures .0),
+        sig-open w (a .n) (a .h) (c .if1 .left),
+      ),
+      omega arith,
+    )
 
 pub signature-spec : {M : Type 1} → statement M
 signature-spec =
     tie.close
     (tie.spec
-    mul-class-of
-    sub-class-of
+    push-index-requires
     class-of-requires
-    mul-class-of-2
-    add-class-of
-    sub-class-of-2
+    push-index-requires-2
     class-of-requires-2
     mul-if1
     shared-slice-read-if1

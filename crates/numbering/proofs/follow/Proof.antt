@@ -1,13 +1,11 @@
 -- `numbering::follow`: the class after a possible outcome is visited, and one that isn't possible is passed over. Assumes nothing.
-use mathlib.Core.Path.{sym, _∙_}
-use Prim.Native.Nat.{_+_, _*_, _<_}
-use native.Mathlib.Nat.{mod-lt}
+use mathlib.Core.Path.{sym, _∙_, subst}
+use Prim.Native.Nat.{_<_}
 use native.Mathlib.Omega.{arith}
 use borrow.Author.Needs.{needs}
-use Rattle.patterns.specs.Outcome.{bit}
-use Rattle.patterns.proofs.Numbers.{bit-le}
-use Rattle.classes.specs.Area.{region}
+use Rattle.classes.specs.Area.{region, classAt}
 use Rattle.numbering.specs.Numbered.{classOf}
+use Rattle.numbering.specs.Rows.{Visited}
 use Rattle.numbering.proofs.Reading.{read-none, read-more}
 use Rattle.numbering.proofs.follow.Statement.{statement}
 use Rattle.numbering.proofs.follow.Tie as tie
@@ -32,28 +30,13 @@ may-follow-requires c κs =
     let s = c .before .before .before in
     omega (arith, s .pre .1 .ready .room, class-below s)
 
-mul-visit : tie.Need-mul-visit
-mul-visit c =
+push-index-requires : tie.Need-push-index-requires
+push-index-requires c κs =
     let s = c .before .before .before .before .before .before in
-    omega (arith, class-below s, bit-le (s .args .hit))
-
-cast-visit : tie.Need-cast-visit
-cast-visit c = search needs
-
-add-visit : tie.Need-add-visit
-add-visit c =
-    let s = c .before .before .before .before .before .before in
-    omega (arith, class-below s, bit-le (s .args .hit))
-
-rem-visit : tie.Need-rem-visit
-rem-visit c = search needs
+    (s .pre .1 .ordered .histories (s .args .i) (s .pre .0), omega (arith, s .pre .1 .ready .fits))
 
 visit-requires : tie.Need-visit-requires
-visit-requires c κs =
-    let s = c .before .before .before .before .before .before in
-    let N = s .pre .1 in
-    let h = classOf (s .args .work .now) (s .args .i) in
-    (mod-lt (h * 2 + bit (s .args .hit)) (N .ready .some-history), N .ready, N .ordered)
+visit-requires c κs = search needs
 
 same-length : tie.Need-same-length
 same-length c = search needs
@@ -61,10 +44,13 @@ same-length c = search needs
 returns : tie.Need-returns
 returns c =
     let v = c .before .before in
-    let t = v .before .before in
+    let p = v .before in
+    let t = p .before .before in
     let s = t .before .before .before .before .before in
-    read-more (s .args .n) (s .args .work .now) _ (s .args .count) _ (s .args .i) (s .args .hit) (s .pre .1) (s .pre .0)
-    (sym (t .before .may-follow .ensures) ∙ t .if1 .taken) (v .visit .ensures)
+    let w = s .args .work .now in
+    read-more (s .args .n) w _ (s .args .count) _ (s .args .i) (s .args .hit) (s .pre .1) (s .pre .0)
+    (sym (t .before .may-follow .ensures) ∙ t .if1 .taken)
+    (subst (λ h. Visited (s .args .n) w (v .visit .last .1 .0) (classAt w h) (s .args .count) (v .visit .result)) (p .push-index .ensures .0) (v .visit .ensures))
 
 same-length-2 : tie.Need-same-length-2
 same-length-2 c = search needs
@@ -84,10 +70,7 @@ follow-spec =
     slice-read-class
     cast-class
     may-follow-requires
-    mul-visit
-    cast-visit
-    add-visit
-    rem-visit
+    push-index-requires
     visit-requires
     same-length
     returns

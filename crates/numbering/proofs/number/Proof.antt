@@ -3,11 +3,11 @@ use mathlib.Core.Path.{_≡_, _∙_, subst}
 use mathlib.Core.Bool.{true, false}
 use Prim.Native.Nat.{_+_, _-_, _≤_}
 use native.Mathlib.Omega.{arith}
-use borrow.Author.Needs.{needs}
 use Rattle.machines.specs.Numbering.{place}
 use Rattle.numbering.specs.Work.{Kept}
 use Rattle.numbering.specs.Rows.{Numbering}
 use Rattle.numbering.proofs.Keeping.{kept-none, kept-trans}
+use Rattle.numbering.proofs.Classes.{classed-ready}
 use Rattle.numbering.proofs.Promise.{numbered-from}
 use Rattle.numbering.proofs.number.Statement.{statement}
 use Rattle.numbering.proofs.number.Tie as tie
@@ -19,7 +19,9 @@ abbrev μ-loop : tie.MeasureT-loop
 μ-loop n work₀ count₀ i₀ work count i = n - i
 
 visit-start-requires : tie.Need-visit-start-requires Inv-loop μ-loop
-visit-start-requires c κs = search needs
+visit-start-requires c κs =
+    let s = c .before .before in
+    classed-ready (s .args .n) (s .args .work .now) (s .pre .0) (s .pre .1) (s .pre .2)
 
 loop-holds : tie.Need-loop-holds Inv-loop μ-loop
 loop-holds c =

@@ -11,6 +11,7 @@ use Rattle.meaning.specs.Sets.{KeptBy}
 use Rattle.meaning.proofs.SetLaws.{kept-by-empty}
 use Rattle.history.specs.History.{historyOf}
 use Rattle.history.proofs.Histories.{history-start}
+use Rattle.history.proofs.Shifted.{shifted-pushed}
 use Rattle.verdict.proofs.Turns.{soFar, all-so-far, hit-turn, miss-turn, lost-turn, history-turn}
 use Rattle.verdict.proofs.judge_outcomes.Statement.{statement}
 use Rattle.verdict.proofs.judge_outcomes.Tie as tie
@@ -64,7 +65,7 @@ loop-again c =
     let b = s .args .pattern .now in (
       omega arith,
       omega arith,
-      c .push .ensures .1 (longest - 1) refl ∙ history-turn set b (l .i) t (l .inv .3) (longest - 1) (l .history) (s .pre) (l .inv .2),
+      c .push .ensures .0 ∙ shifted-pushed (longest - 1) _ (l .history) _ refl ∙ history-turn set b (l .i) t (l .inv .3) (longest - 1) (l .history) (s .pre) (l .inv .2),
       ⊎-elim
           (λ w. miss-turn set b (l .i) t (l .inv .3) (longest - 1) (l .history) (s .pre) (l .inv .2) (not-true _ (w .0 .taken))
           (w .1 .result) (w .1 .ensures) (omega (arith, w .1 .ensures .within, w .2 .left)))

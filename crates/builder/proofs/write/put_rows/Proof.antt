@@ -7,21 +7,20 @@ use native.Mathlib.Omega.{arith}
 use borrow.Author.Needs.{needs}
 use lib.ListN.{length, take, drop}
 use Rattle.classes.specs.Area.{region, mayAt}
-use Rattle.numbering.specs.Numbered.{classOf}
+use Rattle.numbering.specs.Numbered.{classOf, numberAfter, moveOf, numberedMachine}
 use Rattle.table.specs.Bytes.{pairBytes, entryOf, noMiss}
-use Rattle.builder.specs.Rows.{numberNext, nextOf, tableMachine}
 use Rattle.builder.proofs.Stores.{rowsIn, no-rows, row-more}
 use Rattle.builder.proofs.write.put_rows.Statement.{statement}
 use Rattle.builder.proofs.write.put_rows.Tie as tie
 
 abbrev Inv-loop : tie.InvT-loop
-Inv-loop work n count out₀ i₀ out i = (i ≤ count) × (length out ≡ length out₀) × (out ≡ rowsIn (tableMachine n work count) out₀ i)
+Inv-loop work n count out₀ i₀ out i = (i ≤ count) × (length out ≡ length out₀) × (out ≡ rowsIn (numberedMachine n work count) out₀ i)
 
 abbrev μ-loop : tie.MeasureT-loop
 μ-loop work n count out₀ i₀ out i = count - i
 
 -- the entry for a miss is the machine's move
-entry-miss : (n : ℕ) (w : List ℕ) (h : ℕ) (b : Bool) → mayAt w h ≡ b → cond (mayAt w h) (numberNext n w h false - 1) noMiss ≡ entryOf (nextOf n w h false)
+entry-miss : (n : ℕ) (w : List ℕ) (h : ℕ) (b : Bool) → mayAt w h ≡ b → cond (mayAt w h) (numberAfter w n h false - 1) noMiss ≡ entryOf (moveOf w n h false)
 entry-miss n w h true e = rw e
 entry-miss n w h false e = rw e
 
@@ -78,7 +77,7 @@ loop-again c =
     let s = l .before .before .before in
     let i = l .loop .i in
     let w = s .args .work .now in
-    let m = tableMachine (s .args .n) w (s .args .count) in
+    let m = numberedMachine (s .args .n) w (s .args .count) in
     let x = h .before .miss-entry .ensures ∙ entry-miss (s .args .n) w (classOf w i) (mayAt w (classOf w i)) refl in
     let y = h .hit-entry .ensures in
     let out = l .loop .out in (
@@ -97,7 +96,7 @@ returns c =
     let l = c .before in
     let s = l .before .before .before in
     let e : l .loop .i ≡ s .args .count = omega arith in
-    l .loop .inv .2 ∙ ap (rowsIn (tableMachine (s .args .n) (s .args .work .now) (s .args .count)) (s .args .out .now)) e
+    l .loop .inv .2 ∙ ap (rowsIn (numberedMachine (s .args .n) (s .args .work .now) (s .args .count)) (s .args .out .now)) e
 
 pub put-rows-spec : {M : Type 1} → statement M
 put-rows-spec =

@@ -5,7 +5,7 @@ use Prim.Native.Nat.{_*_}
 use borrow.Author.Needs.{needs}
 use lib.ListN.{take, drop}
 use Rattle.table.specs.Bytes.{rowBytes, sizeOf}
-use Rattle.builder.specs.Rows.{tableMachine}
+use Rattle.numbering.specs.Numbered.{numberedMachine}
 use Rattle.builder.proofs.Stores.{head-and-rows}
 use Rattle.builder.proofs.write.write_table.Statement.{statement}
 use Rattle.builder.proofs.write.write_table.Tie as tie
@@ -25,7 +25,7 @@ returns c =
     let h = r .before .before .before .before in
     let s = h .before .before .before .before in
     let n = s .args .count in
-    let rows = rowBytes (tableMachine (s .args .n) (s .args .work .now) n) 0 n in
+    let rows = rowBytes (numberedMachine (s .args .n) (s .args .work .now) n) 0 n in
     r .put-rows .ensures
     ∙ ap (λ z. take 7 z ++ (rows ++ drop (sizeOf n) z)) (h .put-head .ensures)
     ∙ head-and-rows n (4 * n) (s .args .out .now) rows
