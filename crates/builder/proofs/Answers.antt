@@ -63,14 +63,14 @@ module _ (s : LimitSet) (work work′ table : List ℕ) (m : Machine) (canonical
 no-machine : Machine
 no-machine = record { states = 0; start = 0; next = λ s o. none }
 
-module _ (longest : ℕ) (set work table : List ℕ) where
-  early : (t u : Tested) → first (setRows longest set) ≡ t → first (areaRow work ∷ []) ≡ u → first (earlyRows longest set work) ≡ and-then t u
-  early t u e f = first-append (setRows longest set) (areaRow work ∷ []) ∙ ap₂ and-then e f
+module _ (widest : ℕ) (set work table : List ℕ) where
+  early : (t u : Tested) → first (setRows widest set) ≡ t → first (areaRow work ∷ []) ≡ u → first (earlyRows widest set work) ≡ and-then t u
+  early t u e f = first-append (setRows widest set) (areaRow work ∷ []) ∙ ap₂ and-then e f
 
-  all : (size : ℕ) (t u : Tested) → first (earlyRows longest set work) ≡ t → first (roomRow table size ∷ []) ≡ u → first (buildRows longest set work table size) ≡ and-then t u
-  all size t u e f = first-append (earlyRows longest set work) (roomRow table size ∷ []) ∙ ap₂ and-then e f
+  all : (size : ℕ) (t u : Tested) → first (earlyRows widest set work) ≡ t → first (roomRow table size ∷ []) ≡ u → first (buildRows widest set work table size) ≡ and-then t u
+  all size t u e f = first-append (earlyRows widest set work) (roomRow table size ∷ []) ∙ ap₂ and-then e f
 
-  refused-early : (n v : ℕ) → first (earlyRows longest set work) ≡ refused n v → BuiltAs longest set work work table table (Refused n v)
+  refused-early : (n v : ℕ) → first (earlyRows widest set work) ≡ refused n v → BuiltAs widest set work work table table (Refused n v)
   refused-early n v e =
       let size = sizeOf (no-machine .states) in
       let f = all size (refused n v) _ e refl in (
@@ -84,18 +84,18 @@ module _ (longest : ℕ) (set work table : List ℕ) where
         },
       )
 
-  pub refused-set : (n v : ℕ) → first (setRows longest set) ≡ refused n v → BuiltAs longest set work work table table (Refused n v)
+  pub refused-set : (n v : ℕ) → first (setRows widest set) ≡ refused n v → BuiltAs widest set work work table table (Refused n v)
   refused-set n v e = refused-early n v (early (refused n v) _ e refl)
 
-  pub refused-area : first (setRows longest set) ≡ passed → length work < areaSize → BuiltAs longest set work work table table (Refused 8 0)
+  pub refused-area : first (setRows widest set) ≡ passed → length work < areaSize → BuiltAs widest set work work table table (Refused 8 0)
   refused-area e h = refused-early 8 0 (early passed (refused 8 0) e (one-row 8 0 (length work) areaSize h))
 
-  pub built-table : (work′ table′ : List ℕ) (r : BuildAnswer) → first (setRows longest set) ≡ passed → areaSize ≤ length work
-      → (m : Machine) × BuildsTable (setOf set) work work′ table table′ r m → BuiltAs longest set work work′ table table′ r
+  pub built-table : (work′ table′ : List ℕ) (r : BuildAnswer) → first (setRows widest set) ≡ passed → areaSize ≤ length work
+      → (m : Machine) × BuildsTable (setOf set) work work′ table table′ r m → BuiltAs widest set work work′ table table′ r
   built-table work′ table′ r e h (m, b) =
       let size = sizeOf (m .states) in
-      let p : first (earlyRows longest set work) ≡ passed = early passed passed e (no-row 8 0 (length work) areaSize h) in
-      let f : first (buildRows longest set work table size) ≡ first (roomRow table size ∷ []) = all size passed _ p refl in (
+      let p : first (earlyRows widest set work) ≡ passed = early passed passed e (no-row 8 0 (length work) areaSize h) in
+      let f : first (buildRows widest set work table size) ≡ first (roomRow table size ∷ []) = all size passed _ p refl in (
         m,
         record {
           canonical = λ q. b .canonical;

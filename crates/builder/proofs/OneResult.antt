@@ -36,33 +36,33 @@ work-once : (t : Tested) (w a b : List ℕ) → WorkAfter t w a → WorkAfter t 
 work-once passed w a b f g = cleared-once w a b f g
 work-once (refused n v) w a b f g = f ∙ sym g
 
-module _ (longest : ℕ) (set work table : List ℕ) where
+module _ (widest : ℕ) (set work table : List ℕ) where
   -- what the rows say, by what the early ones say
-  rows : (size : ℕ) → first (buildRows longest set work table size) ≡ and-then (first (earlyRows longest set work)) (first (roomRow table size ∷ []))
-  rows size = first-append (earlyRows longest set work) (roomRow table size ∷ [])
+  rows : (size : ℕ) → first (buildRows widest set work table size) ≡ and-then (first (earlyRows widest set work)) (first (roomRow table size ∷ []))
+  rows size = first-append (earlyRows widest set work) (roomRow table size ∷ [])
 
   -- the answer and the table, by one answer of the rows and one machine's size and bytes
-  module _ (a b c d : List ℕ) (r t : BuildAnswer) (m n : Machine) (f : BuiltWith longest set work a table c r m) (g : BuiltWith longest set work b table d t n) where
+  module _ (a b c d : List ℕ) (r t : BuildAnswer) (m n : Machine) (f : BuiltWith widest set work a table c r m) (g : BuiltWith widest set work b table d t n) where
     abbrev size : Machine → ℕ
     size k = sizeOf (k .states)
 
     abbrev answered : Machine → Tested
-    answered k = first (buildRows longest set work table (size k))
+    answered k = first (buildRows widest set work table (size k))
 
     same-of : answered m ≡ answered n → lengthWhen (answered m) (size m) ≡ lengthWhen (answered n) (size n) → tableWhen (answered m) m table ≡ tableWhen (answered n) n table → (r ≡ t) × (a ≡ b) × (c ≡ d)
     same-of e l w = (
       same-answer r t (f .answer ∙ e ∙ sym (g .answer)) (f .returned ∙ l ∙ sym (g .returned)),
-      work-once (first (earlyRows longest set work)) work a b (f .work-after) (g .work-after),
+      work-once (first (earlyRows widest set work)) work a b (f .work-after) (g .work-after),
       f .table-after ∙ w ∙ sym (g .table-after),
     )
 
-    early-refused : (k v : ℕ) → first (earlyRows longest set work) ≡ refused k v → (q : Machine) → answered q ≡ refused k v
+    early-refused : (k v : ℕ) → first (earlyRows widest set work) ≡ refused k v → (q : Machine) → answered q ≡ refused k v
     early-refused k v e q = rows (size q) ∙ ap (λ z. and-then z (first (roomRow table (size q) ∷ []))) e
 
     one-table : OneTable m n → (size m ≡ size n) × (bytesOf m ≡ bytesOf n)
     one-table o = (ap sizeOf (o .states), bytes-of-one-table m n o)
 
-    once : (e : Tested) → first (earlyRows longest set work) ≡ e → (r ≡ t) × (a ≡ b) × (c ≡ d)
+    once : (e : Tested) → first (earlyRows widest set work) ≡ e → (r ≡ t) × (a ≡ b) × (c ≡ d)
     once (refused k v) e =
         let x = early-refused k v e m in
         let y = early-refused k v e n in
@@ -71,7 +71,7 @@ module _ (longest : ℕ) (set work table : List ℕ) where
         (ap (λ z. tableWhen z m table) x ∙ sym (ap (λ z. tableWhen z n table) y))
     once passed e =
         let (s, w) = one-table (canonical-unique m n (KeptBy (setOf set)) (KeptBy (setOf set)) (f .canonical e) (g .canonical e) (λ p. (λ k. k, λ k. k))) in
-        let x : answered m ≡ answered n = ap (λ z. first (buildRows longest set work table z)) s in
+        let x : answered m ≡ answered n = ap (λ z. first (buildRows widest set work table z)) s in
         same-of x (ap₂ lengthWhen x s) (tables (answered m) (answered n) x s w)
       where
         tables : (p q : Tested) → p ≡ q → size m ≡ size n → bytesOf m ≡ bytesOf n → tableWhen p m table ≡ tableWhen q n table
@@ -81,5 +81,5 @@ module _ (longest : ℕ) (set work table : List ℕ) where
             by passed = ap₂ (λ u k. u ++ drop k table) w s
             by (refused k v) = refl
 
-pub built-one-result : (longest : ℕ) (set work table a b c d : List ℕ) (r t : BuildAnswer) → BuiltAs longest set work a table c r → BuiltAs longest set work b table d t → (r ≡ t) × (a ≡ b) × (c ≡ d)
-built-one-result longest set work table a b c d r t (m, f) (n, g) = once longest set work table a b c d r t m n f g (first (earlyRows longest set work)) refl
+pub built-one-result : (widest : ℕ) (set work table a b c d : List ℕ) (r t : BuildAnswer) → BuiltAs widest set work a table c r → BuiltAs widest set work b table d t → (r ≡ t) × (a ≡ b) × (c ≡ d)
+built-one-result widest set work table a b c d r t (m, f) (n, g) = once widest set work table a b c d r t m n f g (first (earlyRows widest set work)) refl

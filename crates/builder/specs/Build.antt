@@ -24,11 +24,11 @@ abbrev pub roomRow : List ℕ → (size : ℕ) → Row
 roomRow table size = row 9 (ltb (length table) size) size
 
 -- what is tested before the work area is used
-abbrev pub earlyRows : (longest : ℕ) → (set work : List ℕ) → List Row
-earlyRows longest set work = setRows longest set ++ areaRow work ∷ []
+abbrev pub earlyRows : (widest : ℕ) → (set work : List ℕ) → List Row
+earlyRows widest set work = setRows widest set ++ areaRow work ∷ []
 
-abbrev pub buildRows : (longest : ℕ) → (set work table : List ℕ) → (size : ℕ) → List Row
-buildRows longest set work table size = earlyRows longest set work ++ roomRow table size ∷ []
+abbrev pub buildRows : (widest : ℕ) → (set work table : List ℕ) → (size : ℕ) → List Row
+buildRows widest set work table size = earlyRows widest set work ++ roomRow table size ∷ []
 
 -- the number of each answer and what else is returned; the length that is returned without a refusal
 abbrev pub says : BuildAnswer → Tested
@@ -59,12 +59,12 @@ tableWhen passed m table = bytesOf m ++ drop (sizeOf (m .states)) table
 tableWhen (refused number at) m table = table
 
 -- the result, by a machine that is the canonical one of the set where the builder gets past 8
-pub record BuiltWith (longest : ℕ) (set work work′ table table′ : List ℕ) (r : BuildAnswer) (m : Machine) : Type 0 where
-  pub canonical : first (earlyRows longest set work) ≡ passed → Canonical m (KeptBy (setOf set))
-  pub answer : says r ≡ first (buildRows longest set work table (sizeOf (m .states)))
-  pub returned : lengthOf r ≡ lengthWhen (first (buildRows longest set work table (sizeOf (m .states)))) (sizeOf (m .states))
-  pub work-after : WorkAfter (first (earlyRows longest set work)) work work′
-  pub table-after : table′ ≡ tableWhen (first (buildRows longest set work table (sizeOf (m .states)))) m table
+pub record BuiltWith (widest : ℕ) (set work work′ table table′ : List ℕ) (r : BuildAnswer) (m : Machine) : Type 0 where
+  pub canonical : first (earlyRows widest set work) ≡ passed → Canonical m (KeptBy (setOf set))
+  pub answer : says r ≡ first (buildRows widest set work table (sizeOf (m .states)))
+  pub returned : lengthOf r ≡ lengthWhen (first (buildRows widest set work table (sizeOf (m .states)))) (sizeOf (m .states))
+  pub work-after : WorkAfter (first (earlyRows widest set work)) work work′
+  pub table-after : table′ ≡ tableWhen (first (buildRows widest set work table (sizeOf (m .states)))) m table
 
-abbrev pub BuiltAs : (longest : ℕ) → (set work work′ table table′ : List ℕ) → BuildAnswer → Type 0
-BuiltAs longest set work work′ table table′ r = (m : Machine) × BuiltWith longest set work work′ table table′ r m
+abbrev pub BuiltAs : (widest : ℕ) → (set work work′ table table′ : List ℕ) → BuildAnswer → Type 0
+BuiltAs widest set work work′ table table′ r = (m : Machine) × BuiltWith widest set work work′ table table′ r m

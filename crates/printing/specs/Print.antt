@@ -26,29 +26,29 @@ abbrev pub inputRow : List ℕ → Row
 inputRow input = row 1 (ltb mostInput (length input)) 0
 
 -- what is tested before the work area is used, and everything
-abbrev pub printEarly : (longest : ℕ) → (input work : List ℕ) → Tested
-printEarly longest input work = first (inputRow input ∷ earlyRows longest input work)
+abbrev pub printEarly : (widest : ℕ) → (input work : List ℕ) → Tested
+printEarly widest input work = first (inputRow input ∷ earlyRows widest input work)
 
-abbrev pub printTests : (longest : ℕ) → (input work table : List ℕ) → Machine → Tested
-printTests longest input work table m = first (inputRow input ∷ buildRows longest input work table (sizeOf (m .states)))
+abbrev pub printTests : (widest : ℕ) → (input work table : List ℕ) → Machine → Tested
+printTests widest input work table m = first (inputRow input ∷ buildRows widest input work table (sizeOf (m .states)))
 
 -- the text for an input, with the machine that is the canonical one of the set where the tests get past 8
-abbrev pub textFor : (longest : ℕ) → (input work table : List ℕ) → Machine → List ℕ
-textFor longest input work table m = textWhen (printTests longest input work table m) m
+abbrev pub textFor : (widest : ℕ) → (input work table : List ℕ) → Machine → List ℕ
+textFor widest input work table m = textWhen (printTests widest input work table m) m
 
 -- the bytes that hold every text: `states 2048` and 2,048 lines as `2047 2047 2047`, each with its newline
 abbrev pub longestText : ℕ
 longestText = 12 + 15 * mostStates
 
-pub record PrintedWith (longest : ℕ) (input work work′ table table′ out out′ : List ℕ) (r : ℕ) (m : Machine) : Type 0 where
-  pub canonical : printEarly longest input work ≡ passed → Canonical m (KeptBy (setOf input))
-  pub work-after : WorkAfter (printEarly longest input work) work work′
-  pub table-after : table′ ≡ tableWhen (printTests longest input work table m) m table
-  pub returned : r ≡ held (textFor longest input work table m) out
-  pub out-after : out′ ≡ cut (textFor longest input work table m) out
+pub record PrintedWith (widest : ℕ) (input work work′ table table′ out out′ : List ℕ) (r : ℕ) (m : Machine) : Type 0 where
+  pub canonical : printEarly widest input work ≡ passed → Canonical m (KeptBy (setOf input))
+  pub work-after : WorkAfter (printEarly widest input work) work work′
+  pub table-after : table′ ≡ tableWhen (printTests widest input work table m) m table
+  pub returned : r ≡ held (textFor widest input work table m) out
+  pub out-after : out′ ≡ cut (textFor widest input work table m) out
 
-abbrev pub PrintedAs : (longest : ℕ) → (input work work′ table table′ out out′ : List ℕ) → ℕ → Type 0
-PrintedAs longest input work work′ table table′ out out′ r = (m : Machine) × PrintedWith longest input work work′ table table′ out out′ r m
+abbrev pub PrintedAs : (widest : ℕ) → (input work work′ table table′ out out′ : List ℕ) → ℕ → Type 0
+PrintedAs widest input work work′ table table′ out out′ r = (m : Machine) × PrintedWith widest input work work′ table table′ out out′ r m
 
 -- What the program lends. "at most 65 bytes of it": one more than an input may have, so that a longer one shows. The work area and the table's buffer are enough for every set, and the text's for every text.
 pub record Lent (input : List ℕ) (size : ℕ) (work table out : List ℕ) : Type 0 where
@@ -59,10 +59,10 @@ pub record Lent (input : List ℕ) (size : ℕ) (work table out : List ℕ) : Ty
   pub text-room : longestText ≤ length out
 
 -- what is tested of an input where no 8 and no 9 can be
-abbrev pub inputTests : (longest : ℕ) → (input : List ℕ) → Tested
-inputTests longest input = first (inputRow input ∷ setRows longest input)
+abbrev pub inputTests : (widest : ℕ) → (input : List ℕ) → Tested
+inputTests widest input = first (inputRow input ∷ setRows widest input)
 
 -- nothing of the text is cut off, and it is the set's table or a refusal by 1 to 7
-pub record PrintedWhole (longest : ℕ) (input work work′ table table′ out out′ : List ℕ) (r : ℕ) : Type 0 where
-  pub printed : PrintedAs longest input work work′ table table′ out out′ r
-  pub whole : (m : Machine) × ((inputTests longest input ≡ passed → Canonical m (KeptBy (setOf input))) × (take r out′ ≡ textWhen (inputTests longest input) m))
+pub record PrintedWhole (widest : ℕ) (input work work′ table table′ out out′ : List ℕ) (r : ℕ) : Type 0 where
+  pub printed : PrintedAs widest input work work′ table table′ out out′ r
+  pub whole : (m : Machine) × ((inputTests widest input ≡ passed → Canonical m (KeptBy (setOf input))) × (take r out′ ≡ textWhen (inputTests widest input) m))
