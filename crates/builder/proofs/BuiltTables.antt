@@ -37,11 +37,11 @@ module _ (s : LimitSet) (ok : SetAllowed longest s) (m : Machine) (canonical : C
   pub walked-by-histories : (p : List Bool) → Walks source p ↔ KeptBy s p
   walked-by-histories = kept-walked s (longest - 1) ok
 
-  -- "n (1 to 2,048)"
+  -- RULES, Bytes of a table: "n, how many states there are, 1 to 2,048"
   pub no-more-states : m .states ≤ mostStates
   no-more-states = canonical-fewest m source (KeptBy s) canonical (history-well-made s (longest - 1)) walked-by-histories
 
-  -- "A hit is always allowed."
+  -- RULES, Bytes of a table: "A hit is allowed in every state"
   hit-allowed : (t : ℕ) → t < m .states → (u : ℕ) × (m .next t true ≡ some u)
   hit-allowed t l =
       let (p, first-to) = canonical .first t l in

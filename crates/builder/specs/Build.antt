@@ -1,4 +1,4 @@
--- "The builder tests 1 to 7, 8, 9, and else returns 7+4n." The table is the bytes of the canonical machine for exactly the patterns that the set keeps.
+-- RULES, What each entry tests, builder: "as reading a set; then 8; then 9 with 7+4n", and else "writes the table and returns 7+4n". The table is the bytes of the canonical machine for exactly the patterns that the set keeps.
 use mathlib.Core.Path.{_≡_}
 use mathlib.Core.List.{List, [], _∷_, _++_}
 use Prim.Native.Nat.{ℕ, _≤_, _<_}
@@ -15,11 +15,11 @@ use Rattle.classes.specs.Area.{areaSize}
 use Rattle.builder.specs.declared.BuildAnswer.{BuildAnswer}
 use Rattle.builder.specs.declared.BuildAnswer.the-variants.{Built, Refused}
 
--- "work area under 8,192 entries of 16 bits"
+-- RULES, Refusals, 8: "the work area has less than 8,192 entries of 16 bits"
 abbrev pub areaRow : List ℕ → Row
 areaRow work = row 8 (ltb (length work) areaSize) 0
 
--- "table buffer shorter than 7+4n", with 7+4n
+-- RULES, Refusals, 9: "the buffer is too short for what must be written: 7+4n bytes of a table", with 7+4n
 abbrev pub roomRow : List ℕ → (size : ℕ) → Row
 roomRow table size = row 9 (ltb (length table) size) size
 
@@ -43,7 +43,7 @@ abbrev pub lengthWhen : Tested → ℕ → ℕ
 lengthWhen passed size = size
 lengthWhen (refused number at) size = 0
 
--- "a builder that got past 8 leaves the first 8,192 work entries zero". "Work entries beyond those .. are never written."
+-- RULES, What a refusal leaves: "A builder that is past 8, refused by none of 1 to 8, gives the first 8,192 entries of the work area back as zeros"; "nothing is ever written to the entries of the work area after those 8,192".
 pub record Cleared (w w′ : List ℕ) : Type 0 where
   pub length-stays : length w′ ≡ length w
   pub zero : (k : ℕ) → k < areaSize → getD w′ k 0 ≡ 0

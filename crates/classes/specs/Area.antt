@@ -1,4 +1,4 @@
--- "The builder's lent u16 slice holds history classes and merge marks": four regions, one entry a history in each.
+-- RULES, The table of a set: "the first 8,192 hold classes of histories and marks of merges while it works". Four regions, one entry a history in each.
 use mathlib.Core.Path.{_≡_}
 use mathlib.Core.Bool.{Bool}
 use mathlib.Core.List.{List}
@@ -12,7 +12,7 @@ use Rattle.history.specs.History.{shifted}
 abbrev pub region : ℕ
 region = 2 ^ (longest - 1)
 
--- "work area under 8,192 entries of 16 bits"
+-- RULES, Refusals, 8: "the work area has less than 8,192 entries of 16 bits"
 abbrev pub areaSize : ℕ
 areaSize = 4 * region
 

@@ -1,4 +1,4 @@
--- "Set A covers set B when every pattern kept under A is kept under B. Otherwise answer with the shortest pattern kept under A and not under B" .. "A comparison tests the first set, then the second, and says which one."
+-- RULES, Covers, and What each entry tests, comparison: "as reading a set, for the first set and then for the second; a refusal says which of them, 1 or 2", and else "covers, with a pattern of length 0; or the first pattern between the sets".
 use mathlib.Core.Path.{_≡_}
 use mathlib.Core.Bool.{Bool}
 use mathlib.Core.List.{List, [], _++_, map}

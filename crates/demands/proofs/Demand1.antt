@@ -1,4 +1,4 @@
--- Demand 1: "Every public entry judges them itself and ends. It refuses only by the numbers of the rules, in their order, and a refusal writes nothing, except that a work area already in use comes back cleared."
+-- Demand 1: "Sets of limits, patterns and tables may be any bytes of any length. Every public entry judges them itself and ends. It refuses only by the numbers of the rules, in their order, and a refusal writes nothing, except that a work area already in use comes back cleared."
 -- Each entry is refused exactly by the first row that holds of its table, and by no number but its own; what was lent to a refused call is as it was. (The boundary's flat fields: `Boundary`. The printed line's, of which this file passes the theorems on: `printing/proofs/Refuses`.) That every entry ends is what the checker proves of every function. Assumes nothing.
 use mathlib.Core.Path.{_≡_, ap, _∙_, subst}
 use mathlib.Core.Logic.{_↔_}

@@ -1,4 +1,4 @@
--- All rows of 01's "Patterns to try" that are marked P, as one list under one claim: those on patterns come from `meaning`, and the tables are shown here, by carrying the limit's histories to the states of its table. The checker computes the tests. Assumes nothing.
+-- All rows of RULES, Patterns to try that are marked proved, as one list under one claim: those on patterns come from `meaning`, and the tables are shown here, by carrying the limit's histories to the states of its table. The checker computes the tests. Assumes nothing.
 use mathlib.Core.Path.{_≡_, refl, subst}
 use mathlib.Core.Option.{some, Option·none-ne-some}
 use mathlib.Core.Bool.{Bool, true, false}

@@ -1,4 +1,4 @@
--- Each answer as a flat record: "Every answer begins with refused (0, or 01's number) and at (what 01 returns beside that number, else 0)."
+-- Each answer as a flat record. It begins with `refused`, 0 or the number of RULES, Refusals, and `at`, the value beside that number, else 0.
 use mathlib.Core.Path.{_≡_}
 use Rattle.sets.specs.declared.SetAnswer.{SetAnswer}
 use Rattle.sets.specs.declared.SetAnswer.the-variants as set
@@ -71,7 +71,7 @@ abbrev pub flatStart : StartAnswer → FloeDone
 flatStart start.Started = record { refused = 0; at = 0 }
 flatStart (start.Refused number at) = record { refused = number; at = at }
 
--- "0 normal, 1 panic, 2 lost"; 0 on a refusal
+-- 0 normal, 1 panic, 2 lost; 0 on a refusal
 abbrev pub flatAsk : AskAnswer → FloeRowAsked
 flatAsk ask.Normal = record { refused = 0; at = 0; answer = 0 }
 flatAsk ask.Panic = record { refused = 0; at = 0; answer = 1 }

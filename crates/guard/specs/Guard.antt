@@ -1,4 +1,4 @@
--- "A guard is a small record that goes in and comes back: start, ask, tell."
+-- RULES, The guard: "A guard is a small record by value: the number of a state, and whether it is lost. It goes into a call and comes out beside the answer".
 use mathlib.Core.Path.{_≡_}
 use mathlib.Core.Option.{Option, none, some}
 use mathlib.Core.Bool.{Bool, true, false, cond}
@@ -19,7 +19,7 @@ use Rattle.guard.specs.declared.AskAnswer.the-variants as ask
 use Rattle.guard.specs.declared.TellAnswer.{TellAnswer}
 use Rattle.guard.specs.declared.TellAnswer.the-variants as tell
 
--- "a guard not lost, in state 0"
+-- RULES, What a refusal leaves: "a guard that isn't lost, in state 0, told nothing"
 abbrev pub fresh : Guard
 fresh = record { state = 0; lost = false }
 
@@ -28,7 +28,7 @@ abbrev pub startSays : StartAnswer → Tested
 startSays start.Started = passed
 startSays (start.Refused number at) = refused number at
 
--- starting tests the whole table for 10 to 12; the guard is the same, refused or not
+-- RULES, What each entry tests, start: "as the table check, the whole table". The guard is the same, refused or not.
 pub record StartedAs (b : List ℕ) (r : Started) : Type 0 where
   pub refusal : startSays (r .answer) ≡ first (tableRows b)
   pub guard : r .guard ≡ fresh
@@ -40,7 +40,7 @@ askSays ask.Panic = passed
 askSays ask.Lost = passed
 askSays (ask.Refused number at) = refused number at
 
--- "Ask answers normal, panic or lost": what an answer that isn't a refusal says of a guard, by where a miss leads from its state
+-- RULES, The guard: "Ask, before a job, answers lost if the guard is lost, else panic if its state allows no miss, else normal. It changes nothing." What an answer that isn't a refusal says of a guard, by where a miss leads from its state.
 abbrev pub StandingBy : Option ℕ → Guard → AskAnswer → Type 0
 StandingBy miss g ask.Normal = (g .lost ≡ false) × ((t : ℕ) × (miss ≡ some t))
 StandingBy miss g ask.Panic = (g .lost ≡ false) × (miss ≡ none)
@@ -50,13 +50,13 @@ StandingBy miss g (ask.Refused number at) = Unit {0}
 abbrev pub Standing : Machine → Guard → AskAnswer → Type 0
 Standing m g = StandingBy (m .next (g .state) false) g
 
--- all of it for a lost guard too; the guard comes back as it was
+-- "A lost guard is tested like any other."
 pub record AskedAs (b : List ℕ) (g : Guard) (r : Asked) : Type 0 where
   pub refusal : askSays (r .answer) ≡ first (lookRows b (g .state))
   pub answer : Standing (machineOf b) g (r .answer)
   pub guard : r .guard ≡ g
 
--- "A miss told in panic makes it lost, its state number then stays, and it is lost until the caller starts a new guard."
+-- RULES, The guard: "A guard that isn't lost goes to the next state. Told a miss in panic, it becomes lost and keeps its state number. A lost guard stays as it is, whatever it is told".
 abbrev pub moved : Option ℕ → Guard → Guard
 moved none g = record { state = g .state; lost = true }
 moved (some t) g = record { state = t; lost = false }
@@ -67,7 +67,7 @@ afterBy move g = cond (g .lost) g (moved move g)
 abbrev pub after : Machine → Guard → Bool → Guard
 after m g o = afterBy (m .next (g .state) o) g
 
--- "tell then tests 13", with 0 beside it
+-- RULES, What each entry tests, tell: "as ask; then 13 with 0"
 abbrev pub tellRows : List ℕ → Guard → ℕ → List Row
 tellRows b g byte = lookRows b (g .state) ++ row 13 (ltb 1 byte) 0 ∷ []
 

@@ -1,4 +1,4 @@
--- "A row of guards serves up to 16 jobs on one table. Its calls are start, ask and tell for one job number." The row is a lent list of guards.
+-- RULES, The row: "A row is a slice of guard records that the caller lends to each call: one table, one guard for each job, at most 16. Start, ask and tell name a job by its number, from 0, and are the calls above on that job's guard."
 use mathlib.Core.Path.{_≡_}
 use mathlib.Core.Bool.{Bool, _||_}
 use mathlib.Core.List.{List, _∷_}
@@ -21,20 +21,20 @@ mostGuards = 16
 abbrev pub guardAt : List Guard → ℕ → Guard
 guardAt r job = getD r job fresh
 
--- "job number, from 0, isn't below the row's count of guards, or the row has more than 16 guards"
+-- RULES, Refusals, 14: "the job's number, from 0, isn't below the count of guards in the row, or that count is more than 16"
 abbrev pub outside : ℕ → ℕ → Bool
 outside count job = leb count job || ltb mostGuards count
 
--- "A call on the row tests 14 first", with 0 beside it
+-- RULES, What each entry tests, start, ask and tell in a row: "14; then as the call on a single guard"
 abbrev pub jobRow : List Guard → ℕ → Row
 jobRow r job = row 14 (outside (length r) job) 0
 
--- "Starting or telling one job changes its guard only"
+-- RULES, The row: "No other guard changes"
 pub record ChangesOnly (job : ℕ) (r r′ : List Guard) : Type 0 where
   pub count : length r′ ≡ length r
   pub others : (other : ℕ) → (other ≡ job → ⊥) → guardAt r′ other ≡ guardAt r other
 
--- a guard started anew: where it is refused, the old guard stays
+-- a guard started anew. RULES, What a refusal leaves: "a refused start in a row leaves the old guard"
 abbrev pub anewWhen : Tested → Guard → Guard
 anewWhen passed g = fresh
 anewWhen (refused number at) g = g

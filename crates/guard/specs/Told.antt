@@ -1,4 +1,4 @@
--- A guard told outcomes one after the other: "its state after each tell is named by the outcomes told".
+-- A guard told outcomes one after the other. RULES, The guard: "the state of a guard started there is the one to which the outcomes told so far lead".
 use mathlib.Core.Path.{_≡_}
 use mathlib.Core.Logic.{_↔_}
 use mathlib.Core.Bool.{Bool, false, cond}
@@ -25,12 +25,12 @@ abbrev pub toldAll : List ℕ → Guard → List ℕ → Guard
 toldAll b g [] = g
 toldAll b g (byte ∷ bytes) = toldAll b (toldOf b g byte) bytes
 
--- the outcomes told: "A refused tell isn't an outcome told."
+-- the outcomes told. RULES, What a refusal leaves: "A refused tell has told nothing."
 abbrev pub heard : List ℕ → List Bool
 heard [] = []
 heard (byte ∷ bytes) = cond (ltb 1 byte) (heard bytes) (outcome byte ∷ heard bytes)
 
--- what an answer says of outcomes p told from state s: "Panic. The outcomes so far are kept, and with one more miss they aren't."
+-- what an answer says of outcomes p told from state s: RULES, Lost and Panic, said of what can be walked
 pub record ByWalk (m : Machine) (s : ℕ) (p : List Bool) (a : AskAnswer) : Type 0 where
   pub lost : (a ≡ ask.Lost) ↔ (Can m s p → ⊥)
   pub panic : (a ≡ ask.Panic) ↔ (Can m s p × (Can m s (p ++ false ∷ []) → ⊥))

@@ -1,4 +1,4 @@
--- "the newest outcome is the low bit of a history": "Histories shift left, take the new outcome and are masked to the window."
+-- RULES, Outcomes and patterns: "the newest outcome is its lowest bit. With each new outcome the bits move up by one, the outcome becomes the lowest bit, and a mask drops what is older than the history is long."
 -- The history length m is a variable everywhere.
 use mathlib.Core.Bool.{Bool}
 use mathlib.Core.List.{List, [], _∷_}

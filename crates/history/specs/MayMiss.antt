@@ -1,4 +1,4 @@
--- Whether a miss can still be repaired: "Panicking for RowHit when a window has failed: by then it is too late. The test is whether the miss can still be repaired."
+-- Whether a miss may follow. RULES, Easy ways to go wrong: "What counts is whether hits after the miss can still mend it."
 -- A question of the newest outcomes alone, and never of the pattern before them.
 use mathlib.Core.Path.{_≡_}
 use mathlib.Core.Bool.{Bool, true, false}

@@ -1,4 +1,4 @@
--- "Both begin with four bytes, big-endian, that count the bytes after them. Then a version byte, 1."
+-- RULES, Bytes: "Each layout on this page begins with the same head: four bytes, the length field, one number that says how many bytes follow these four; then one byte, the version, which is 1." "a number of several bytes has its highest byte first"
 use mathlib.Core.List.{List}
 use Prim.Native.Nat.{ℕ, _+_, _*_}
 use lib.ListN.{getD}

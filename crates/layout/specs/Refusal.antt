@@ -1,4 +1,4 @@
--- "Numbers of refusal, in the order tested": a table of rows, each a number, when it is given, and what else is returned. The first row that holds is the answer.
+-- RULES, Refusals: a table of rows, each a number, when it is given, and the value beside it; "the first that holds is given".
 use mathlib.Core.Bool.{Bool, cond}
 use mathlib.Core.List.{List, [], _∷_}
 use Prim.Native.Nat.{ℕ}

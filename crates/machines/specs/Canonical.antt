@@ -1,4 +1,4 @@
--- "State 0 is the start. States are numbered by the first pattern that reaches each, shorter patterns first, and among equal lengths a miss before a hit at the first difference. The table has the fewest states".
+-- RULES, The table of a set: "Each state has a first pattern, in the order of patterns, that leads to it, and the states are numbered in the order of their first patterns. The start is state 0, since the empty pattern is its first." "No machine that walks exactly these has fewer states."
 -- What that asks of a machine for a language, the patterns that it is to walk. That it has the fewest states is then a theorem.
 use mathlib.Core.Path.{_≡_}
 use mathlib.Core.Logic.{_↔_}

@@ -1,4 +1,4 @@
--- "a machine (at most one next state for each outcome, a pattern kept exactly if it can be walked)"
+-- RULES, The table of a set: "A machine has states, one of them its start, and for each state and outcome one next state or none. It walks a pattern if, from the start, every outcome in turn has a next state."
 use mathlib.Core.Path.{_≡_}
 use mathlib.Core.Option.{Option, none, some}
 use mathlib.Core.Bool.{Bool}

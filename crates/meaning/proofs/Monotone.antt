@@ -95,6 +95,6 @@ around-mono none (pos n) = λ e. refl
 around-mono (also u r) (pos zero) = u
 around-mono (also u r) (pos (suc n)) = around-mono r (pos n)
 
--- (1) turning misses into hits keeps a pattern kept
+-- turning misses into hits keeps a pattern kept
 pub kept-mono : (l : Rule) {p q : List Bool} → Better p q → Kept l p → Kept l q
 kept-mono l {p} {q} r h = always-mono l (around p) (around q) (around-mono r) h

@@ -32,7 +32,7 @@ all-hits-hold w (RowHit x k) (a, b, c) = run-hits x k c
 all-hits-hold w (AnyMiss x k) (a, b, c) = omega (arith, misses-replicate k)
 all-hits-hold w (RowMiss x) a = λ q. let g : true ≡ false = cc in true≢false g
 
--- "The empty pattern is always kept."
+-- RULES, Kept: "The empty pattern is kept by every set."
 pub kept-empty : (w : ℕ) (l : Rule) → RuleAllowed w l → Kept l []
 kept-empty w l a i = subst (λ z. Holds l z) (sym (window-empty i (width l))) (all-hits-hold w l a)
 

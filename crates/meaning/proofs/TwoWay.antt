@@ -45,7 +45,7 @@ occurs-up p s j e (pos n) = λ t. ap (λ z. getD z n true) (sym e) ∙ getD-wind
 pub occurs-around : (p : List Bool) → Occurs p (around p)
 occurs-around p = (pos zero, window-drop p (length p) zero (omega arith))
 
--- (2)
+-- RULES, Kept: "a pattern is kept exactly if it stands somewhere in a two-way endless sequence, any at all, in which every window holds"
 pub kept-occurs : (l : Rule) (p : List Bool) → Kept l p ↔ ((s : ℤ → Bool) × Occurs p s × Always l s)
 kept-occurs l p = (
   λ h. (around p, occurs-around p, h),
@@ -61,7 +61,7 @@ up-part : (a p b : List Bool) (i : ℤ) → Up (around (a ++ (p ++ b)) (pos (len
 up-part a p b (negsuc n) = λ e. refl
 up-part a p b (pos n) = λ e. up-front p b n (sym (getD-append-add a (p ++ b) n true) ∙ e)
 
--- (3) a contiguous part of a kept pattern is kept
+-- a contiguous part of a kept pattern is kept
 pub kept-part : (l : Rule) (a p b : List Bool) → Kept l (a ++ (p ++ b)) → Kept l p
 kept-part l a p b h = kept-of l (around (a ++ (p ++ b))) (pos (length a)) p (up-part a p b) h
 

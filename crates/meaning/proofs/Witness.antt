@@ -51,7 +51,7 @@ short-witness a b w p ok (ka, nb) =
       omega (arith, length-window (around p) i (width l), width-allowed w l (ok .each j lt .rule-allowed) .1),
     )
 
--- "It never has more than 12 jobs."
+-- RULES, Covers: "It has 1 to 12 jobs, never more than the longest window."
 pub first-between-short : (a b : LimitSet) (w : ℕ) (p : List Bool) → SetAllowed w b → FirstBetween a b p → length p ≤ w
 first-between-short a b w p ok f =
     let (v, between, short) = short-witness a b w p ok (f .between) in

@@ -1,4 +1,4 @@
--- The rows of 01's "Patterns to try" that are marked P and speak of patterns, as one list under one claim. Each row is decided by a test that is shown to agree with the definitions, and the checker computes the tests. Assumes nothing.
+-- The rows of RULES, Patterns to try that are marked proved and speak of patterns, as one list under one claim. Each row is decided by a test that is shown to agree with the definitions, and the checker computes the tests. Assumes nothing.
 use mathlib.Core.Logic.{dite, ⊎-elim}
 use mathlib.Core.Bool.{Bool, true, false, not, _&&_, _||_}
 use mathlib.Core.List.{List, [], _∷_, _++_}

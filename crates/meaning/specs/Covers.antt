@@ -1,4 +1,4 @@
--- "Demands at least as much. Set A covers set B when every pattern kept under A is kept under B."
+-- RULES, Covers: "Set A covers set B, it demands at least as much, when B keeps every pattern that A keeps."
 use mathlib.Core.Bool.{Bool}
 use mathlib.Core.List.{List}
 use Rattle.patterns.specs.Order.{NoLater}
@@ -12,7 +12,7 @@ Covers a b = (p : List Bool) → KeptBy a p → KeptBy b p
 abbrev pub Between : LimitSet → LimitSet → List Bool → Type 0
 Between a b p = KeptBy a p × (KeptBy b p → ⊥)
 
--- "the shortest pattern kept under A and not under B, of equal lengths the one with a miss at the earliest place where they differ"
+-- RULES, Covers: "the answer is the first of them in the order of patterns"
 pub record FirstBetween (a b : LimitSet) (p : List Bool) : Type 0 where
   pub between : Between a b p
   pub none-earlier : (q : List Bool) → Between a b q → NoLater p q

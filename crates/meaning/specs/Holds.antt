@@ -1,4 +1,4 @@
--- The column "holds in a window of k jobs when".
+-- RULES, Limits: the column "holds in a window when".
 use mathlib.Core.Path.{_≡_}
 use mathlib.Core.Bool.{Bool, true, false}
 use mathlib.Core.List.{List, [], _∷_, _++_}
@@ -16,7 +16,7 @@ misses [] = zero
 misses (true ∷ w) = misses w
 misses (false ∷ w) = suc (misses w)
 
--- some x hits stand in a row inside the window
+-- "somewhere in it x hits follow each other without a miss"
 abbrev pub Run : ℕ → List Bool → Type 0
 Run x w = (a : List Bool) × (b : List Bool) × (w ≡ a ++ (replicate x true ++ b))
 

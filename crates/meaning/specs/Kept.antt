@@ -1,4 +1,4 @@
--- "Kept. Put endless hits before and after a pattern. It is kept under a set when each window of each limit holds in the result."
+-- RULES, Kept: "Let hits without end come before the pattern and after it. A limit keeps the pattern when it holds in every window of this two-way endless sequence, wherever the window lies".
 use mathlib.Core.Path.{_≡_}
 use mathlib.Core.Bool.{Bool}
 use mathlib.Core.List.{List}

@@ -1,4 +1,4 @@
--- "A limit is one of four kinds": the table of kinds.
+-- RULES, Limits: the table of kinds.
 use mathlib.Core.Path.{_≡_}
 use Prim.Native.Nat.{ℕ, zero, suc, _≤_}
 use Rattle.meaning.specs.declared.Limit.{Limit}
@@ -17,7 +17,7 @@ ruleFrom (suc (suc (suc kind))) x k = RowMiss x
 abbrev pub ruleOf : Limit → Rule
 ruleOf l = ruleFrom (l .kind) (l .x) (l .k)
 
--- how many jobs a window has: "k", and for RowMiss "window x+1"
+-- the column "window": how many jobs a window has
 abbrev pub width : Rule → ℕ
 width (AnyHit x k) = k
 width (RowHit x k) = k

@@ -1,4 +1,4 @@
--- The longest window, "k 1 to 12". Every law takes it, or the history length, as a variable; this is the one place that says how large it is.
+-- RULES, Limits: "The longest window has 12 jobs." Every law takes it, or the history length, as a variable; this is the one place that says how large it is.
 use Prim.Native.Nat.{ℕ}
 
 abbrev pub longest : ℕ

@@ -1,4 +1,4 @@
--- "A set keeps a pattern exactly when each of its limits does." Kept by a set, lost at a job, panic.
+-- RULES, Kept: "A set keeps the patterns that all of its limits keep, and no others." Kept by a set, lost at a job, panic.
 use mathlib.Core.Bool.{Bool, false}
 use mathlib.Core.List.{List, [], _∷_, _++_}
 use Prim.Native.Nat.{ℕ, _≤_, _<_}
@@ -24,18 +24,18 @@ pub record SetAllowed (widest : ℕ) (s : LimitSet) : Type 0 where
   pub eight-places : s .count ≤ 8
   pub each : (i : ℕ) → i < s .count → Allowed widest (limitAt s i)
 
--- "It is kept under a set when each window of each limit holds"
+-- "A set keeps the patterns that all of its limits keep"
 abbrev pub KeptBy : LimitSet → List Bool → Type 0
 KeptBy s p = (i : ℕ) → i < s .count → Kept (ruleAt s i) p
 
--- "Lost at job j. The pattern isn't kept, and j (from 1) is the length of its shortest beginning that isn't kept. Report j and the lowest-numbered limit (from 0) that doesn't keep that beginning."
+-- RULES, Lost: "A pattern that isn't kept is lost at job j. Of its beginnings that aren't kept the shortest has j jobs, so j counts from 1. Beside j stands a limit: among those that don't keep this beginning, the one with the lowest number, from 0."
 pub record LostAt (s : LimitSet) (p : List Bool) (j i : ℕ) : Type 0 where
   pub lost : KeptBy s (take j p) → ⊥
   pub shortest : (n : ℕ) → n < j → KeptBy s (take n p)
   pub breaks : Kept (ruleAt s i) (take j p) → ⊥
   pub lowest : (n : ℕ) → n < i → Kept (ruleAt s n) (take j p)
 
--- "Panic. The outcomes so far are kept, and with one more miss they aren't."
+-- RULES, Panic: "A pattern is in panic when it is kept but would no longer be with a miss after it."
 pub record Panic (s : LimitSet) (p : List Bool) : Type 0 where
   pub kept : KeptBy s p
   pub miss-loses : KeptBy s (p ++ false ∷ []) → ⊥

@@ -1,4 +1,4 @@
--- Kept as a test that is computed. proofs/Decide.antt shows that it agrees with the definition.
+-- RULES, Kept, as a test that is computed. proofs/Decide.antt shows that it agrees with the definition.
 use mathlib.Core.Bool.{Bool, true, false, _&&_, _||_}
 use mathlib.Core.List.{List, [], _∷_}
 use Prim.Native.Nat.{ℕ, zero, suc, _+_}

@@ -1,4 +1,4 @@
--- "Put endless hits before and after a pattern."
+-- RULES, Kept: "Let hits without end come before the pattern and after it."
 use mathlib.Core.Bool.{Bool, true}
 use mathlib.Core.List.{List, [], _∷_}
 use Prim.Native.Nat.{ℕ, zero, suc}

@@ -12,7 +12,7 @@ pub struct Limit {
     pub k: u8,
 }
 
-// A set in memory: a count and eight places for limits. Places not used hold zeros.
+// RULES, A set in memory. The places from the count on hold zeros in a set that was read.
 #[repr(C)]
 pub struct LimitSet {
     pub count: usize,

@@ -1,4 +1,4 @@
--- "States are numbered by the first pattern that reaches each": the third region holds each class's number and one, 0 for none; the fourth the classes in the order of their numbers.
+-- RULES, The table of a set: "the states are numbered in the order of their first patterns". The third region holds each class's number and one, 0 for none; the fourth the classes in the order of their numbers.
 use mathlib.Core.Path.{_≡_}
 use mathlib.Core.Option.{Option, none, some}
 use mathlib.Core.Bool.{Bool, true, false, cond}

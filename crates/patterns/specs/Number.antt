@@ -1,4 +1,4 @@
--- A pattern as a number: its outcomes are the binary digits, "the newest outcome is the low bit".
+-- A pattern as a number: its outcomes are the binary digits. RULES, Outcomes and patterns: "the newest outcome is its lowest bit".
 use mathlib.Core.Bool.{Bool}
 use mathlib.Core.List.{List, [], _∷_}
 use Prim.Native.Nat.{ℕ, _+_, _*_, _^_}

@@ -1,4 +1,4 @@
--- Which of two patterns comes first: "shorter patterns first, and among equal lengths a miss before a hit at the first difference."
+-- RULES, Order of patterns: "The pattern with fewer jobs comes first. Where two have equally many, look at the first place at which they differ: the one with the miss there comes first."
 use mathlib.Core.Path.{_≡_}
 use mathlib.Core.Bool.{Bool, true, false}
 use mathlib.Core.List.{List, _∷_, _++_}

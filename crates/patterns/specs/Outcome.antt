@@ -1,4 +1,4 @@
--- "A job's outcome is 1 (deadline met, a hit) or 0 (a miss). A pattern is a finite list of outcomes, oldest first."
+-- RULES, Outcomes and patterns: "A job has one outcome, a byte: 1, a hit, if it met its deadline, and 0, a miss, if it didn't. A pattern is any finite number of outcomes in the order in which they happened: the oldest comes first and the newest last."
 -- A hit is true and a miss is false.
 use mathlib.Core.Bool.{Bool, true, false, not}
 use mathlib.Core.List.{List, [], _∷_, map}
@@ -18,7 +18,7 @@ abbrev pub bit : Bool → ℕ
 bit true = 1
 bit false = 0
 
--- "an outcome byte is neither 0 nor 1", with "its place from 0": the bytes from place i on
+-- RULES, Refusals, 13: "an outcome is more than 1", with "its number among the outcomes, from 0": the bytes from place i on
 unfoldable pub outcomeRows : List ℕ → ℕ → List Row
 outcomeRows [] i = []
 outcomeRows (byte ∷ bytes) i = row 13 (ltb 1 byte) i ∷ outcomeRows bytes (suc i)

@@ -1,4 +1,4 @@
--- What a place says of a pattern: 13 with that place, or nothing where it is the pattern's end.
+-- RULES, Refusals, 13: what a place says of a pattern, 13 with that place, or nothing where it is the pattern's end.
 use mathlib.Core.Bool.{cond}
 use Prim.Native.Nat.{ℕ}
 use lib.Dec.{ltb}

@@ -1,5 +1,5 @@
--- "The program reads a set from standard input, at most 65 bytes of it; an input over 64 bytes is refusal 1 there, whatever it holds."
--- Everything else is tested as the builder does, and the text is that of the set's own table.
+-- RULES, The printing program: "It takes a set from standard input and reads 65 bytes of it at the most. More than 64 are refusal 1, whatever they hold; 64 or fewer are tested as by the builder."
+-- The text is that of the set's own table.
 use mathlib.Core.Path.{_≡_}
 use mathlib.Core.List.{List, _∷_}
 use Prim.Native.Nat.{ℕ, _+_, _*_, _≤_}
@@ -18,7 +18,7 @@ use Rattle.builder.specs.Build.{earlyRows, buildRows, WorkAfter, tableWhen}
 use Rattle.printing.specs.Text.{textWhen}
 use Rattle.printing.specs.Cut.{held, cut}
 
--- "an input over 64 bytes is refusal 1 there, whatever it holds"
+-- "More than 64 are refusal 1, whatever they hold"
 abbrev pub mostInput : ℕ
 mostInput = 64
 

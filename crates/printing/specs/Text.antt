@@ -1,4 +1,4 @@
--- "It prints for AnyHit(1,2) exactly three lines: `states 2`, `0 1 0`, `1 - 0`. A refusal prints one line, as `refused 3 at 0`." Every line ends with one newline.
+-- RULES, The printing program: "A table is printed as one line with the word `states` and how many there are, then one line for each state, from 0 on: its number, the next state on a miss or `-` where none is allowed, and the next state on a hit." "A refusal is printed as one line, with the number and the value beside it"; "each line ends with one newline".
 use mathlib.Core.Option.{Option, none, some}
 use mathlib.Core.Bool.{true, false, cond}
 use mathlib.Core.List.{List, [], _∷_, _++_}

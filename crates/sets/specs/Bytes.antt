@@ -1,4 +1,4 @@
--- "Set: after the version, a count c (1 to 8), then c times kind, x, k. The length field is 2+3c."
+-- RULES, Bytes of a set: "the length field, 2+3c", "the version, 1", "c, how many limits there are, 1 to 8", and for each limit "its kind, its x, its k".
 use mathlib.Core.Path.{_≡_}
 use mathlib.Core.List.{List, [], _∷_, _++_}
 use Prim.Native.Nat.{ℕ, zero, suc, _+_, _-_, _*_, _≤_}
@@ -20,14 +20,14 @@ unfoldable pub limitsIn : List ℕ → ℕ → ℕ → List Limit
 limitsIn b i zero = []
 limitsIn b i (suc n) = limitIn b i ∷ limitsIn b (suc i) n
 
--- "A set in memory is a count and eight places for limits; places not used hold zeros."
+-- RULES, A set in memory: "A struct of a count and an array of eight limit records"; "The records from the count on are not in use: a set that was read has zeros there".
 abbrev pub setWith : List ℕ → ℕ → LimitSet
 setWith b c = record { count = c; limits = limitsIn b 0 c ++ replicate (8 - c) zeroLimit }
 
 abbrev pub setOf : List ℕ → LimitSet
 setOf b = setWith b (countOf b)
 
--- "places not used hold zeros"
+-- "a set that was read has zeros there"
 pub record Tidy (s : LimitSet) : Type 0 where
   pub eight : length (s .limits) ≡ 8
   pub unused : (i : ℕ) → s .count ≤ i → limitAt s i ≡ zeroLimit

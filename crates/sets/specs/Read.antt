@@ -1,4 +1,4 @@
--- What reading a set gives.
+-- RULES, What each entry tests, reading a set: "1, 2, 3, 4; then limit after limit, each for 5, 6 and 7", and else "the set".
 use mathlib.Core.Path.{_≡_}
 use mathlib.Core.List.{List}
 use Prim.Native.Nat.{ℕ}
@@ -15,7 +15,7 @@ abbrev pub says : SetAnswer → Tested
 says Accepted = passed
 says (Refused number at) = refused number at
 
--- "Where a refusal's answer must still hold a set, it is a set of count 0"
+-- RULES, What a refusal leaves: "a refused reading fills it with a set of count 0 and zeros"
 abbrev pub setWhen : Tested → List ℕ → LimitSet
 setWhen passed b = setOf b
 setWhen (refused n v) b = emptySet

@@ -1,4 +1,4 @@
--- Refusals 1 to 7, as rows in the order tested.
+-- RULES, Refusals: 1 to 7, as rows in the order tested.
 use mathlib.Core.Bool.{Bool, not, cond, _||_}
 use mathlib.Core.List.{List, [], _∷_, _++_}
 use Prim.Native.Nat.{ℕ, zero, suc, _+_, _-_, _*_}
@@ -11,11 +11,11 @@ use Rattle.meaning.specs.declared.LimitSet.{LimitSet}
 use Rattle.meaning.specs.Sets.{limitAt}
 use Rattle.sets.specs.Bytes.{countOf, setOf}
 
--- "k outside its range (for kind 3: not 0)": "k 1 to 12", with the widest window for 12
+-- "the k of a limit isn't 1 to 12; for kind 3, isn't 0", with the widest window for 12
 abbrev pub kOutside : (widest : ℕ) → Limit → Bool
 kOutside widest l = cond (eqb (l .kind) 3) (not (eqb (l .k) 0)) (eqb (l .k) 0 || ltb widest (l .k))
 
--- "x outside its range": "x 0 to k", and for kind 3 "x 0 to 11", one less than the widest window
+-- "the x of a limit isn't 0 to k; for kind 3, isn't 0 to 11", with one less than the widest window for 11
 abbrev pub xOutside : (widest : ℕ) → Limit → Bool
 xOutside widest l = cond (eqb (l .kind) 3) (leb widest (l .x)) (ltb (l .k) (l .x))
 
@@ -23,12 +23,12 @@ xOutside widest l = cond (eqb (l .kind) 3) (leb widest (l .x)) (ltb (l .k) (l .x
 abbrev pub limitRows : (widest : ℕ) → Limit → (i : ℕ) → List Row
 limitRows widest l i = row 5 (ltb 3 (l .kind)) i ∷ row 6 (kOutside widest l) i ∷ row 7 (xOutside widest l) i ∷ []
 
--- "Limits are tested first to last, each for 5, 6, 7": the n limits from limit i on
+-- RULES, What each entry tests: "limit after limit, each for 5, 6 and 7", the n limits from limit i on
 unfoldable pub limitsRows : (widest : ℕ) → LimitSet → (i n : ℕ) → List Row
 limitsRows widest s i zero = []
 limitsRows widest s i (suc n) = limitRows widest (limitAt s i) i ++ limitsRows widest s (suc i) n
 
--- "c is 0 or above 8"
+-- "c, or the count of a set in memory, is 0 or more than 8"
 abbrev pub countRow : ℕ → Row
 countRow c = row 3 (eqb c 0 || ltb 8 c) 0
 

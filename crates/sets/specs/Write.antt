@@ -1,4 +1,4 @@
--- What writing a set gives: refused by 3, 5, 6, 7, then by 9 where the buffer is shorter than the set's bytes.
+-- RULES, What each entry tests, writing a set: "3; then limit after limit, each for 5, 6 and 7; then 9 with 6+3c", and else "writes the bytes of the set and returns 6+3c".
 use mathlib.Core.Path.{_≡_}
 use mathlib.Core.List.{List, [], _∷_, _++_}
 use Prim.Native.Nat.{ℕ, _+_, _*_}

@@ -62,7 +62,7 @@ fn fault(limit: Limit, widest: u8) -> u8
     0
 }
 
-// Limits are tested first to last, each for 5, 6, 7.
+// RULES, What each entry tests: "limit after limit, each for 5, 6 and 7".
 fn test_limits(set: LimitSet, widest: u8) -> SetAnswer
     requires { ⌜ set .count ≤ 8 ⌝ }
     ensures { λ r. ⌜ says r ≡ first (limitsRows widest set 0 (set .count)) ⌝ }

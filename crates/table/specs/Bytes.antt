@@ -1,4 +1,4 @@
--- "Table: after the version, two bytes n (1 to 2,048), then n times two big-endian pairs: next state on a miss, next state on a hit. FF FF for a miss says that a miss isn't allowed here. A hit is always allowed. The length field is 3+4n, the whole 7+4n."
+-- RULES, Bytes of a table: "the length field, 3+4n", "the version, 1", "n, how many states there are, 1 to 2,048", and for each state "two for the state that follows on a miss, two for the one that follows on a hit". "FF FF as the state that follows on a miss says that no miss is allowed there. A hit is allowed in every state". "In all 7+4n bytes".
 use mathlib.Core.Option.{Option, none, some}
 use mathlib.Core.Bool.{Bool, true, false, cond}
 use mathlib.Core.List.{List, [], _∷_}
@@ -28,7 +28,7 @@ abbrev pub nextIn : List ℕ → ℕ → Bool → Option ℕ
 nextIn b s true = some (hitEntry b s)
 nextIn b s false = cond (eqb (missEntry b s) noMiss) none (some (missEntry b s))
 
--- the machine that a table's bytes write; "State 0 is the start."
+-- the machine that a table's bytes write; "The start is state 0"
 abbrev pub machineOf : List ℕ → Machine
 machineOf b = record { states = stateCount b; start = 0; next = nextIn b }
 

@@ -1,4 +1,4 @@
--- "The table check tests 10 to 12, and else returns n." And what looking at one state gives.
+-- RULES, What each entry tests, table check: "10, 11, 12: n and the length field, then the entries of all states", and else "n". And what looking at one state gives.
 use mathlib.Core.Path.{_≡_}
 use mathlib.Core.Option.{Option, none, some}
 use mathlib.Core.Bool.{Bool, true, false, not, cond}

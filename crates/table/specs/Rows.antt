@@ -1,4 +1,4 @@
--- Refusals 10 to 12, as rows in the order tested.
+-- RULES, Refusals: 10 to 12, as rows in the order tested.
 use mathlib.Core.Bool.{not, _||_, _&&_}
 use mathlib.Core.List.{List, [], _∷_, _++_}
 use Prim.Native.Nat.{ℕ, zero, suc, _+_, _-_, _*_}
@@ -8,7 +8,7 @@ use Rattle.layout.specs.Bytes.{lengthField, version}
 use Rattle.layout.specs.Refusal.{Row, row}
 use Rattle.table.specs.Bytes.{stateCount, missEntry, hitEntry, noMiss}
 
--- "n is 0 or above 2,048"
+-- "n is 0 or more than 2,048"
 abbrev pub mostStates : ℕ
 mostStates = 2048
 
@@ -21,7 +21,7 @@ countRows b =
     ∷ row 12 (not (eqb (lengthField b) (3 + 4 * stateCount b))) 0
     ∷ []
 
--- "a next state is n or more (FF FF on a miss excepted)", in the entry of state s
+-- "a next state isn't below n, FF FF on a miss apart", in the entry of state s
 abbrev pub entryRows : List ℕ → ℕ → List Row
 entryRows b s =
     row 12 (leb (stateCount b) (missEntry b s) && not (eqb (missEntry b s) noMiss)) 0
@@ -37,6 +37,6 @@ entriesRows b s (suc n) = entryRows b s ++ entriesRows b (suc s) n
 abbrev pub tableRows : List ℕ → List Row
 tableRows b = countRows b ++ entriesRows b 0 (stateCount b)
 
--- what ask and tell test: "10, 11, the counts in 12, and the entry of the guard's state", after "a guard's state is n or more"
+-- RULES, What each entry tests, ask: "10, 11, 12: n and the length field, the guard's state, then the entry of that state and no other". Tell too.
 abbrev pub lookRows : List ℕ → ℕ → List Row
 lookRows b s = countRows b ++ (row 12 (leb (stateCount b) s) 0 ∷ entryRows b s)

@@ -1,4 +1,4 @@
--- The machines that a table's bytes can write: "State 0 is the start", "n (1 to 2,048)", and "a hit is always allowed".
+-- The machines that a table's bytes can write. RULES: "The start is state 0", "n, how many states there are, 1 to 2,048", "A hit is allowed in every state".
 use mathlib.Core.Path.{_≡_}
 use mathlib.Core.Option.{some}
 use mathlib.Core.Bool.{true}

@@ -1,4 +1,4 @@
--- "Lost at job j." "The verdict tests 1 to 7, then the whole pattern for 13, even if it is lost earlier."
+-- RULES, Lost, and What each entry tests, verdict: "as reading a set; then 13 over all outcomes of the pattern, those after the job at which it is lost too", and else "kept, or lost with j and the limit".
 use mathlib.Core.Path.{_≡_}
 use mathlib.Core.Bool.{Bool}
 use mathlib.Core.List.{List, _++_}
