@@ -1,15 +1,22 @@
 # The commands of the repository. `rt` is Rattle's; cargo, C compilers, valgrind and pkg-config serve the tests, and
 # cargo the benchmarks.
 ARCHIVE = target/staticlib/libfloelinnet.a
+SHELL = /bin/bash
+.SHELLFLAGS = -euo pipefail -c
 
-# Everything that must pass: the outside tests over the archive and the printing program, then the proofs, must-fail
-# edits and programs. rt ci starts from nothing and removes target/, so it comes last, and its last line is the verdict.
+# Everything that must pass. rt ci comes first, since it starts from nothing and removes target/: it proves every crate,
+# tries the must-fail edits and runs the programs. The tests from outside then use what it proved and built. Its last
+# line is said again at the end, where nothing has failed.
 .PHONY: test
-test: dist-links
+test:
+	log=$$(mktemp); trap 'rm -f $$log' EXIT; rt ci | tee $$log; $(MAKE) --no-print-directory outside; tail -n 1 $$log
+
+# The tests from outside alone: the archive from C, C++ and Rust, and the printing program.
+.PHONY: outside
+outside: dist-links
 	rt check print_table
 	cargo test --release --offline --quiet
 	cargo run --release --offline --quiet --example recorder | diff - examples/recorder.expected
-	rt ci
 
 # What C and C++ programs are built with, in a folder that can be moved elsewhere.
 .PHONY: dist
