@@ -39,8 +39,8 @@ fn printed(input: &[u8]) -> String {
     printed_in_pieces(input, input.len().max(1))
 }
 
-/// "The program reads a set from standard input, at most 65 bytes of it; an input over 64 bytes is refusal 1 there,
-/// whatever it holds."
+/// RULES, The printing program: "It takes a set from standard input and reads 65 bytes of it at the most. More than 64
+/// are refusal 1, whatever they hold; 64 or fewer are tested as by the builder."
 fn judged(input: &[u8]) -> Result<Vec<Limit>, Refusal> {
     if input.len() > 64 {
         return refuse(1, 0);
@@ -48,8 +48,9 @@ fn judged(input: &[u8]) -> Result<Vec<Limit>, Refusal> {
     sets::read(input)
 }
 
-/// "It prints for AnyHit(1,2) exactly three lines: `states 2`, `0 1 0`, `1 - 0`. A refusal prints one line, as
-/// `refused 3 at 0`."
+/// "A table is printed as one line with the word `states` and how many there are, then one line for each state, from 0
+/// on: its number, the next state on a miss or `-` where none is allowed, and the next state on a hit." "A refusal is
+/// printed as one line, with the number and the value beside it: `refused 3 at 0`."
 fn text(answer: Result<Vec<Limit>, Refusal>) -> String {
     let set = match answer {
         Ok(set) => set,
@@ -106,7 +107,7 @@ fn long(length: usize, version: u8, count: u8) -> Vec<u8> {
     input
 }
 
-/// 64 bytes go to the ordinary tests, 65 don't, "whatever it holds".
+/// 64 bytes are tested as by the builder, 65 are not, "whatever they hold".
 #[test]
 fn around_64_bytes() {
     let heads = |length: usize| [long(length, 2, 8), long(length, 1, 9), long(length, 1, 8), vec![0; length]];

@@ -41,7 +41,7 @@ use Rattle.floelinnet.specs.declared.FloeRowAsked.{FloeRowAsked}
 use Rattle.floelinnet.specs.Flat.{FlatAnswer, flatSet, flatVerdict, flatComparison, flatBuilt, flatChecked, flatStarted, flatAsked, flatTold, flatStart, flatAsk, flatTell}
 use Rattle.demands.specs.Refusing.{RefusesFlat}
 use Rattle.demands.specs.TableOf.{TableOf}
-use Rattle.demands.specs.Guarding.{AnswersFlat}
+use Rattle.demands.specs.Guarding.{ByKeptFlat}
 use Rattle.demands.proofs.Numbers.{JudgeNumber, judge-numbers, table-numbers, look-numbers, tell-numbers, RowNumber, row-start-numbers, row-ask-numbers, row-tell-numbers}
 use Rattle.demands.proofs.Answers.{one-size}
 use Rattle.demands.proofs.FlatAnswers.{opens-refuses, set-opens, verdict-opens, compared-opens, compared-accepted, built-opens, checked-opens, start-opens, ask-opens, tell-opens, answers-flat}
@@ -109,14 +109,14 @@ module _ (row row′ : List Guard) (job : ℕ) (b : List ℕ) where
 
 -- Demand 2.
 pub floe-guard-ask-answers : (set b : List ℕ) → TableOf set b → (s : Started) → StartedAs b s → (told : List ℕ) (f : FloeAsked) → FlatAnswer (AskedAs b (toldAll b (s .guard) told)) flatAsked f
-    → AnswersFlat (setOf set) (heard told) (f .refused) (f .answer)
+    → ByKeptFlat (setOf set) (heard told) (f .refused) (f .answer)
 floe-guard-ask-answers set b t s started told f (a, asked, e) =
     rw e (answers-flat (setOf set) (heard told) (a .answer)
     (λ n v q. at-least 10 12 n (omega arith) (ask-refuses b (toldAll b (s .guard) told) a asked .numbers n v q))
     (guard-answers set b t s started told a asked))
 
 pub floe-row-ask-answers : (set b : List ℕ) → TableOf set b → (row started last : List Guard) (job : ℕ) (calls : List RowCall) → RowStartedAs row job b start.Started started → RowRun started calls last
-    → OnTable b (callsOf job calls) → (f : FloeRowAsked) → FlatAnswer (RowAskedAs last job b) flatAsk f → AnswersFlat (setOf set) (heard (bytesTold (callsOf job calls))) (f .refused) (f .answer)
+    → OnTable b (callsOf job calls) → (f : FloeRowAsked) → FlatAnswer (RowAskedAs last job b) flatAsk f → ByKeptFlat (setOf set) (heard (bytesTold (callsOf job calls))) (f .refused) (f .answer)
 floe-row-ask-answers set b t row started last job calls begin run on f (a, asked, e) =
     rw e (answers-flat (setOf set) (heard (bytesTold (callsOf job calls))) a
     (λ n v q. row-positive n (row-ask-refuses last job b a asked .numbers n v q))

@@ -43,7 +43,7 @@ use Rattle.guard.specs.Row.{guardAt, RowStartedAs, RowAskedAs}
 use Rattle.guard.specs.Runs.{RowCall, RowRun, callsOf, OnTable, bytesTold}
 use Rattle.guard.proofs.Alone.{own-ask, started-job}
 use Rattle.demands.specs.TableOf.{TableOf}
-use Rattle.demands.specs.Guarding.{Answers as Guarded}
+use Rattle.demands.specs.Guarding.{ByKept}
 use Rattle.demands.proofs.Tables.{made-walks-kept}
 use Rattle.demands.proofs.Guarded.{answers-by-meaning, heeded-kept, kept-not-lost as guard-not-lost, hits-bring-fresh, lost-state}
 use Rattle.demands.proofs.Answers.{both-accepted}
@@ -116,7 +116,7 @@ module _ (set b : List ℕ) (t : TableOf set b) (s : start.Started) (started : S
   g = toldAll b (s .guard) told
 
   -- It says panic exactly when the outcomes heard are kept and one more miss would make them not kept; normal where they are kept then too, lost where they aren't kept.
-  pub guard-answers : (r : Asked) → AskedAs b g r → Guarded (setOf set) (heard told) (r .answer)
+  pub guard-answers : (r : Asked) → AskedAs b g r → ByKept (setOf set) (heard told) (r .answer)
   guard-answers r asked = answers-by-meaning set b t told r (rw (started .guard) at asked)
 
   -- While every panic job is met, no limit is broken: if wherever ask said panic the next outcome told was a hit, the outcomes heard are kept and the guard isn't lost. (A byte that is refused isn't an outcome told, and isn't a miss.)
@@ -151,7 +151,7 @@ module _ (b : List ℕ) where
 -- The row: a job that was started on that table, any calls on the row after it, of that job only asks and tells on that table, and then an ask. It hears what a single guard hears.
 module _ (set b : List ℕ) (t : TableOf set b) (row started last : List Guard) (job : ℕ) (calls : List RowCall)
     (start : RowStartedAs row job b Started started) (run : RowRun started calls last) (on : OnTable b (callsOf job calls)) where
-  pub row-answers : (a : AskAnswer) → RowAskedAs last job b a → Guarded (setOf set) (heard (bytesTold (callsOf job calls))) a
+  pub row-answers : (a : AskAnswer) → RowAskedAs last job b a → ByKept (setOf set) (heard (bytesTold (callsOf job calls))) a
   row-answers a asked =
       let told = bytesTold (callsOf job calls) in
       let (inside, own) = started-job b row started last job calls start run on in

@@ -37,7 +37,7 @@ use Rattle.guard.specs.Guard.{startSays, askSays, tellSays}
 use Rattle.floelinnet.specs.declared.FloeComparison.{FloeComparison}
 use Rattle.floelinnet.specs.Flat.{FlatAnswer, flatCompared, flatComparison, flatSet, flatSetOf, flatVerdict, flatBuilt, flatChecked, flatStart, flatAsk, flatTell}
 use Rattle.demands.specs.Refusing.{RefusesFlat}
-use Rattle.demands.specs.Guarding.{Answers, AnswersFlat}
+use Rattle.demands.specs.Guarding.{ByKept, ByKeptFlat}
 use Rattle.demands.proofs.Answers.{one-of}
 use Rattle.demands.proofs.Refusing.{numberOf, atOf, refuses-flat}
 
@@ -84,8 +84,8 @@ tell-opens tell.Told = (refl, refl)
 tell-opens (tell.Refused n v) = (refl, refl)
 
 -- a guard's answer by its fields, since no refusal has number 0
-module _ (s : LimitSet) (p : List Bool) (a : AskAnswer) (positive : (n v : ℕ) → a ≡ ask.Refused n v → 1 ≤ n) (answers : Answers s p a) where
-  pub answers-flat : AnswersFlat s p (flatAsk a .refused) (flatAsk a .answer)
+module _ (s : LimitSet) (p : List Bool) (a : AskAnswer) (positive : (n v : ℕ) → a ≡ ask.Refused n v → 1 ≤ n) (answers : ByKept s p a) where
+  pub answers-flat : ByKeptFlat s p (flatAsk a .refused) (flatAsk a .answer)
   answers-flat = record {
     normal = Iff·trans (normal a positive) (answers .normal);
     panic = Iff·trans (panic a) (answers .panic);

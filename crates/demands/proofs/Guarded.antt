@@ -38,7 +38,7 @@ use Rattle.guard.specs.Told.{inState, afterAll, toldAll, heard}
 use Rattle.guard.proofs.Walked.{told-walk, after-lost, lost-not-walked}
 use Rattle.guard.proofs.InTable.{told-all, never-leaves, answers-by-walk}
 use Rattle.demands.specs.TableOf.{TableOf}
-use Rattle.demands.specs.Guarding.{Answers}
+use Rattle.demands.specs.Guarding.{ByKept}
 use Rattle.demands.proofs.Tables.{canonical-machine, made-allowed, made-canonical, made-checked, made-walk, made-walks-kept}
 
 pub heard-append : (a b : List ℕ) → heard (a ++ b) ≡ heard a ++ heard b
@@ -69,7 +69,7 @@ module _ (set b : List ℕ) (t : TableOf set b) where
   after-told : (told : List ℕ) → toldAll b fresh told ≡ afterAll m fresh (heard told)
   after-told = told-all b (made-checked set b t)
 
-  pub answers-by-meaning : (told : List ℕ) (r : Asked) → AskedAs b (toldAll b fresh told) r → Answers (setOf set) (heard told) (r .answer)
+  pub answers-by-meaning : (told : List ℕ) (r : Asked) → AskedAs b (toldAll b fresh told) r → ByKept (setOf set) (heard told) (r .answer)
   answers-by-meaning told r asked =
       let by = answers-by-walk b (made-checked set b t) told r asked in
       let p = heard told in

@@ -1,4 +1,4 @@
--- What demand 2 says of a guard's answer after outcomes p, by the meaning of kept alone. The same of the flat fields `refused` and `answer`.
+-- RULES, The guard: "It answers panic exactly where these outcomes are in panic, and lost exactly where they aren't kept." What demand 2 says of a guard's answer after outcomes p, by the meaning of kept alone. The same of the flat fields `refused` and `answer`.
 use mathlib.Core.Path.{_≡_}
 use mathlib.Core.Logic.{_↔_}
 use mathlib.Core.Bool.{Bool, false}
@@ -9,12 +9,12 @@ use Rattle.meaning.specs.Sets.{KeptBy, Panic}
 use Rattle.guard.specs.declared.AskAnswer.{AskAnswer}
 use Rattle.guard.specs.declared.AskAnswer.the-variants as ask
 
-pub record Answers (s : LimitSet) (p : List Bool) (a : AskAnswer) : Type 0 where
+pub record ByKept (s : LimitSet) (p : List Bool) (a : AskAnswer) : Type 0 where
   pub normal : (a ≡ ask.Normal) ↔ (KeptBy s p × KeptBy s (p ++ false ∷ []))
   pub panic : (a ≡ ask.Panic) ↔ Panic s p
   pub lost : (a ≡ ask.Lost) ↔ (KeptBy s p → ⊥)
 
-pub record AnswersFlat (s : LimitSet) (p : List Bool) (refused answer : ℕ) : Type 0 where
+pub record ByKeptFlat (s : LimitSet) (p : List Bool) (refused answer : ℕ) : Type 0 where
   pub normal : ((refused ≡ 0) × (answer ≡ 0)) ↔ (KeptBy s p × KeptBy s (p ++ false ∷ []))
   pub panic : ((refused ≡ 0) × (answer ≡ 1)) ↔ Panic s p
   pub lost : ((refused ≡ 0) × (answer ≡ 2)) ↔ (KeptBy s p → ⊥)

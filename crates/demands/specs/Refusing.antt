@@ -1,4 +1,4 @@
--- What demand 1 says of one answer: it is refused by a number exactly when that row of the entry's table is the first that holds, and the number is one of the entry's. The same of the flat fields `refused` and `at`.
+-- RULES, Refusals: "A number is given in the case of its row and in no other." What demand 1 says of one answer: it is refused by a number exactly when that row of the entry's table is the first that holds, and the number is one of the entry's. The same of the flat fields `refused` and `at`.
 use mathlib.Core.Path.{_≡_}
 use mathlib.Core.Logic.{_↔_}
 use Prim.Native.Nat.{ℕ, _≤_}

@@ -48,7 +48,7 @@ pub kept-hit-before : (l : Rule) (p : List Bool) → Kept l p → Kept l (true �
 kept-hit-before l p h = kept-of l (around p) (negsuc zero) (true ∷ p) (before-hit p) h
 
 module _ (s : LimitSet) where
-  -- "a pattern is kept exactly when it occurs in some two-way endless sequence whose windows all hold": one sequence for all limits
+  -- RULES, Kept: "a set keeps a pattern exactly if the pattern stands somewhere in a two-way endless sequence, any at all, in which every window of every limit holds"
   pub kept-by-occurs : (p : List Bool) → KeptBy s p ↔ ((q : ℤ → Bool) × Occurs p q × ((i : ℕ) → i < s .count → Always (ruleAt s i) q))
   kept-by-occurs p = (
     λ k. (around p, occurs-around p, k),

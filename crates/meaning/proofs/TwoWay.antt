@@ -45,7 +45,7 @@ occurs-up p s j e (pos n) = λ t. ap (λ z. getD z n true) (sym e) ∙ getD-wind
 pub occurs-around : (p : List Bool) → Occurs p (around p)
 occurs-around p = (pos zero, window-drop p (length p) zero (omega arith))
 
--- RULES, Kept: "a pattern is kept exactly if it stands somewhere in a two-way endless sequence, any at all, in which every window holds"
+-- RULES, Kept, for one limit: the pattern "stands somewhere in a two-way endless sequence, any at all" in which every window holds
 pub kept-occurs : (l : Rule) (p : List Bool) → Kept l p ↔ ((s : ℤ → Bool) × Occurs p s × Always l s)
 kept-occurs l p = (
   λ h. (around p, occurs-around p, h),

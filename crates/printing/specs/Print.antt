@@ -50,7 +50,7 @@ pub record PrintedWith (widest : ℕ) (input work work′ table table′ out out
 abbrev pub PrintedAs : (widest : ℕ) → (input work work′ table table′ out out′ : List ℕ) → ℕ → Type 0
 PrintedAs widest input work work′ table table′ out out′ r = (m : Machine) × PrintedWith widest input work work′ table table′ out out′ r m
 
--- What the program lends. "at most 65 bytes of it": one more than an input may have, so that a longer one shows. The work area and the table's buffer are enough for every set, and the text's for every text.
+-- What the program lends. RULES, The printing program: it "reads 65 bytes of it at the most", one more than an input may have, so that a longer one shows. The work area and the table's buffer are enough for every set, and the text's for every text.
 pub record Lent (input : List ℕ) (size : ℕ) (work table out : List ℕ) : Type 0 where
   pub bytes-read : length input ≡ mostInput + 1
   pub size-read : size ≤ length input
