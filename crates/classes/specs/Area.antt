@@ -23,12 +23,12 @@ high = 32768
 abbrev pub classAt : List ℕ → ℕ → ℕ
 classAt w h = getD w h 0 % high
 
+abbrev pub mayAt : List ℕ → ℕ → Bool
+mayAt w h = leb high (getD w h 0)
+
 -- the class of the history after h and outcome o, of n histories
 abbrev pub nextClass : List ℕ → (n h : ℕ) → Bool → ℕ
 nextClass w n h o = classAt w (shifted (n - 1) h o)
-
-abbrev pub mayAt : List ℕ → ℕ → Bool
-mayAt w h = leb high (getD w h 0)
 
 -- nothing past the four regions changes
 pub record Within (w w′ : List ℕ) : Type 0 where

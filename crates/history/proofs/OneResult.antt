@@ -1,4 +1,4 @@
--- `Blocks` allows one result: the limit that the lower one names would both block a miss and not. Assumes nothing.
+-- `Blocks` allows one result: of two, the lower names a limit that would both block a miss and let it pass. Assumes nothing.
 use mathlib.Core.Path.{_≡_, sym, _∙_}
 use mathlib.Core.Logic.{dite}
 use mathlib.Core.Bool.{false≢true}
