@@ -1,5 +1,5 @@
 -- By which numbers the builder can refuse, and what a refusal's number says of the work area: by 1 to 8 it is as it was, by 9 it is cleared. Assumes nothing.
-use mathlib.Core.Path.{_≡_, refl, sym, ap, _∙_}
+use mathlib.Core.Path.{_≡_, refl, sym, _∙_}
 use mathlib.Core.List.{List, [], _∷_, _++_}
 use Prim.Native.Nat.{ℕ, _≤_}
 use native.Mathlib.Omega.{arith}

@@ -1,4 +1,4 @@
--- An answer's refusal is known from what it says, for each of the library's answers. Assumes nothing.
+-- An answer's refusal is known from what it says, for each of the library's answers; which set a comparison refuses; and that the builder's rows say the same by every machine that stands for the canonical one. Assumes nothing.
 use mathlib.Core.Path.{_≡_, refl, sym, ap, _∙_}
 use mathlib.Core.Logic.{_↔_}
 use mathlib.Core.List.{List, [], _∷_}

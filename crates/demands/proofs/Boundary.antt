@@ -1,7 +1,7 @@
 -- The demands at the C boundary. Demand 1 in the fields `refused` and `at`: they are 0 and 0 exactly where every test is passed, and else the number of the first row that holds and what is returned beside it. Demand 2 in the fields of an ask: `refused` 0 and `answer` 1 exactly at panic, and so for normal and lost. What was lent is then as the promise behind says. Assumes nothing.
-use mathlib.Core.Path.{_≡_, sym, ap, _∙_, subst}
+use mathlib.Core.Path.{_≡_, _∙_}
 use mathlib.Core.Logic.{_↔_, ⊎-elim}
-use mathlib.Core.List.{List, [], _∷_}
+use mathlib.Core.List.{List}
 use Prim.Native.Nat.{ℕ, _≤_}
 use native.Mathlib.Omega.{arith}
 use Rattle.layout.specs.Refusal.{passed, first}

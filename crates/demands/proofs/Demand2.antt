@@ -27,7 +27,7 @@ use Rattle.verdict.specs.Judge.{judgeRows, says, Verdict, JudgedAs}
 use Rattle.compare.specs.declared.Compared.{Compared}
 use Rattle.compare.specs.declared.CompareAnswer.{CompareAnswer}
 use Rattle.compare.specs.declared.CompareAnswer.the-variants as comparison
-use Rattle.compare.specs.Compare.{packed, BothTested, both-passed, one-refused, in-turn, says as compare-says, Answers, ComparedAs}
+use Rattle.compare.specs.Compare.{packed, BothTested, both-passed, in-turn, says as compare-says, Answers, ComparedAs}
 use Rattle.compare.proofs.Packing.{packed-injective}
 use Rattle.table.specs.Bytes.{machineOf}
 use Rattle.guard.specs.declared.Guard.{Guard}
@@ -37,7 +37,7 @@ use Rattle.guard.specs.declared.Told.{Told}
 use Rattle.guard.specs.declared.AskAnswer.{AskAnswer}
 use Rattle.guard.specs.declared.AskAnswer.the-variants as ask
 use Rattle.guard.specs.declared.StartAnswer.the-variants.{Started}
-use Rattle.guard.specs.Guard.{fresh, StartedAs, AskedAs, tellRows, toldWhen, ToldAs}
+use Rattle.guard.specs.Guard.{StartedAs, AskedAs, tellRows, toldWhen, ToldAs}
 use Rattle.guard.specs.Told.{toldAll, heard}
 use Rattle.guard.specs.Row.{guardAt, RowStartedAs, RowAskedAs}
 use Rattle.guard.specs.Runs.{RowCall, RowRun, callsOf, OnTable, bytesTold}

@@ -1,11 +1,11 @@
 -- Demand 3: "Two accepted sets, given room, yield the same table, byte for byte, exactly when they keep the same finite patterns; and no machine with fewer states walks exactly those patterns." Assumes nothing.
-use mathlib.Core.Path.{_≡_, refl, sym, ap, _∙_, subst}
+use mathlib.Core.Path.{_≡_, refl, sym, _∙_, subst}
 use mathlib.Core.Logic.{_↔_, Iff·trans, Iff·symm}
 use mathlib.Core.Bool.{Bool}
-use mathlib.Core.List.{List, [], _∷_}
+use mathlib.Core.List.{List}
 use Prim.Native.Nat.{ℕ, _≤_}
 use native.Mathlib.Omega.{arith}
-use lib.ListN.{length, take}
+use lib.ListN.{take}
 use Rattle.layout.specs.Refusal.{passed, first}
 use Rattle.machines.specs.Machine.{Machine, WellMade, Can, Walks}
 use Rattle.machines.proofs.Unique.{canonical-unique}

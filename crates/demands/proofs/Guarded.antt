@@ -14,7 +14,7 @@ use Rattle.patterns.specs.Outcome.{outcome}
 use Rattle.patterns.specs.Number.{number}
 use Rattle.patterns.proofs.Numbers.{number-hits}
 use Rattle.machines.specs.Machine.{Machine, walk, Can}
-use Rattle.machines.proofs.Walk.{walk-below, walk-snoc, cannot}
+use Rattle.machines.proofs.Walk.{walk-below, walk-snoc}
 use Rattle.machines.proofs.Meeting.{meeting-same}
 use Rattle.meaning.specs.declared.LimitSet.{LimitSet}
 use Rattle.meaning.specs.Longest.{longest}
@@ -34,7 +34,7 @@ use Rattle.guard.specs.declared.Guard.{Guard}
 use Rattle.guard.specs.declared.Asked.{Asked}
 use Rattle.guard.specs.declared.AskAnswer.the-variants as ask
 use Rattle.guard.specs.Guard.{fresh, AskedAs}
-use Rattle.guard.specs.Told.{inState, afterAll, toldAll, heard}
+use Rattle.guard.specs.Told.{afterAll, toldAll, heard}
 use Rattle.guard.proofs.Walked.{told-walk, after-lost, lost-not-walked}
 use Rattle.guard.proofs.InTable.{told-all, never-leaves, answers-by-walk}
 use Rattle.demands.specs.TableOf.{TableOf}

@@ -1,4 +1,4 @@
--- By which numbers the entries above sets can refuse: a table by 10 to 12, outcomes by 13, a row by 14 too. Assumes nothing.
+-- By which numbers writing a set, the verdict, a table, a guard's calls and a row's can be refused. Assumes nothing.
 use mathlib.Core.Path.{_≡_, refl}
 use mathlib.Core.Logic.{_⊎_, inl, inr}
 use mathlib.Core.List.{List, [], _∷_}

@@ -1,5 +1,5 @@
 -- An accepted set that is given room isn't refused: 1 to 7 don't hold, the work area is long enough for 8, and the buffer for every table. Assumes nothing.
-use mathlib.Core.Path.{_≡_, refl, sym, ap, ap₂, _∙_}
+use mathlib.Core.Path.{_≡_, refl, sym, ap₂, _∙_}
 use mathlib.Core.List.{List, [], _∷_}
 use Prim.Native.Nat.{ℕ}
 use native.Mathlib.Omega.{arith}

@@ -1,6 +1,6 @@
 -- RULES, The row: "No other guard changes, and what a job hears depends on no guard but its own." To say so of whole runs: calls one after the other, as they were answered, of one guard and of a row of guards. A caller takes the guard that comes back; where a start is refused it keeps the one it had.
 use mathlib.Core.Path.{_≡_}
-use mathlib.Core.Bool.{Bool, cond}
+use mathlib.Core.Bool.{cond}
 use mathlib.Core.List.{List, [], _∷_}
 use Prim.Native.Nat.{ℕ}
 use lib.Dec.{eqb}

@@ -1,5 +1,5 @@
 -- Two canonical machines of one language share the first patterns of their states, so they number the states alike and have one table. Assumes nothing.
-use mathlib.Core.Path.{_≡_, refl, sym, _∙_}
+use mathlib.Core.Path.{_≡_, refl, _∙_}
 use mathlib.Core.Logic.{_↔_, Iff·symm, Iff·trans, dite}
 use mathlib.Core.Option.{Option, none, some}
 use mathlib.Core.Bool.{Bool}

@@ -1,7 +1,7 @@
 -- By which numbers a set can be refused: its bytes by 1 to 7, a set in memory by 3 and 5 to 7. Assumes nothing.
 use mathlib.Core.Path.{_≡_, refl}
 use mathlib.Core.Logic.{_⊎_, inl, inr}
-use mathlib.Core.List.{List, _∷_}
+use mathlib.Core.List.{List}
 use Prim.Native.Nat.{ℕ, zero, suc}
 use native.Mathlib.Omega.{arith}
 use Rattle.layout.proofs.Rows.{Numbers, from-to, numbers-append, numbers-among}
