@@ -22,7 +22,7 @@ pub record TableOf (set b : List ℕ) : Type 0 where
   pub built : BuiltAs longest set work work′ table table′ (Built size)
   pub bytes : b ≡ take size table′
 
--- the set is accepted, the work area has 8,192 entries, and the buffer is long enough for every table
+-- the set is accepted, the work area has at least the 8,192 entries of the rules, and the buffer is long enough for every table
 pub record GivenRoom (set work table : List ℕ) : Type 0 where
   pub accepted : first (setRows longest set) ≡ passed
   pub area : areaSize ≤ length work
