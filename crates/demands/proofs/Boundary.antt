@@ -1,18 +1,23 @@
--- The demands at the C boundary. Demand 1 in the fields `refused` and `at`: they are 0 and 0 exactly where every test is passed, and else the number of the first row that holds and what is returned beside it. Demand 2 in the fields of an ask: `refused` 0 and `answer` 1 exactly at panic, and so for normal and lost. What was lent is then as the promise behind says. Assumes nothing.
-use mathlib.Core.Path.{_≡_, _∙_}
-use mathlib.Core.Logic.{_↔_, ⊎-elim}
+-- The demands at the C boundary. Demand 1 in the fields `refused` and `at`: they are 0 and 0 exactly where every test is passed, and else the number of the first row that holds and what is returned beside it. Demand 2 in the fields that a caller goes by: `kept` is 1 exactly where the set is accepted, the outcomes are 0 and 1 and the set keeps them, `covers` 1 exactly where both are accepted and the first covers the second, `answer` 0, 1 and 2 exactly at normal, panic and lost, and 3 exactly on a refusal. What was lent is then as the promise behind says. Assumes nothing.
+use mathlib.Core.Path.{_≡_, _∙_, ap₂}
+use mathlib.Core.Logic.{_↔_, _⊎_, ⊎-elim, Iff·trans}
 use mathlib.Core.List.{List}
 use Prim.Native.Nat.{ℕ, _≤_}
 use native.Mathlib.Omega.{arith}
 use Rattle.layout.specs.Refusal.{passed, first}
-use Rattle.layout.proofs.Rows.{from-to}
+use Rattle.layout.proofs.Rows.{and-then, from-to, both-passed as all-passed, first-append}
+use Rattle.patterns.specs.Outcome.{outcomes, outcomeRows}
+use Rattle.patterns.proofs.Outcomes.{outcomes-passed}
 use Rattle.machines.specs.Machine.{Machine}
 use Rattle.machines.specs.Canonical.{Canonical}
 use Rattle.meaning.specs.Longest.{longest}
-use Rattle.meaning.specs.Sets.{KeptBy}
+use Rattle.meaning.specs.declared.LimitSet.{LimitSet}
+use Rattle.meaning.specs.Sets.{KeptBy, LostAt}
+use Rattle.meaning.specs.Covers as meant
 use Rattle.sets.specs.Bytes.{setOf}
 use Rattle.sets.specs.Rows.{setRows}
 use Rattle.sets.specs.Read.{ReadAs}
+use Rattle.sets.specs.Write.{writeRows, WrittenAs}
 use Rattle.sets.proofs.Numbers.{set-numbers}
 use Rattle.verdict.specs.Judge.{judgeRows, JudgedAs}
 use Rattle.compare.specs.Compare.{BothTested, both-passed, one-refused, in-turn, ComparedAs}
@@ -29,6 +34,7 @@ use Rattle.guard.specs.Told.{toldAll, heard}
 use Rattle.guard.specs.Row.{rowStartRows, RowStartedAs, rowAskRows, RowAskedAs, rowTellRows, RowToldAs}
 use Rattle.guard.specs.Runs.{RowCall, RowRun, callsOf, OnTable, bytesTold}
 use Rattle.floelinnet.specs.declared.FloeSetRead.{FloeSetRead}
+use Rattle.floelinnet.specs.declared.FloeWritten.{FloeWritten}
 use Rattle.floelinnet.specs.declared.FloeVerdict.{FloeVerdict}
 use Rattle.floelinnet.specs.declared.FloeComparison.{FloeComparison}
 use Rattle.floelinnet.specs.declared.FloeBuilt.{FloeBuilt}
@@ -38,15 +44,16 @@ use Rattle.floelinnet.specs.declared.FloeAsked.{FloeAsked}
 use Rattle.floelinnet.specs.declared.FloeTold.{FloeTold}
 use Rattle.floelinnet.specs.declared.FloeDone.{FloeDone}
 use Rattle.floelinnet.specs.declared.FloeRowAsked.{FloeRowAsked}
-use Rattle.floelinnet.specs.Flat.{FlatAnswer, flatSet, flatVerdict, flatComparison, flatBuilt, flatChecked, flatStarted, flatAsked, flatTold, flatStart, flatAsk, flatTell}
+use Rattle.floelinnet.specs.Flat.{FlatAnswer, flatSet, flatWritten, flatVerdict, flatComparison, flatBuilt, flatChecked, flatStarted, flatAsked, flatTold, flatStart, flatAsk, flatTell}
 use Rattle.demands.specs.Refusing.{RefusesFlat}
 use Rattle.demands.specs.TableOf.{TableOf}
+use Rattle.demands.specs.Judging.{Keeps}
 use Rattle.demands.specs.Guarding.{ByKeptFlat}
-use Rattle.demands.proofs.Numbers.{JudgeNumber, judge-numbers, table-numbers, look-numbers, tell-numbers, RowNumber, row-start-numbers, row-ask-numbers, row-tell-numbers}
+use Rattle.demands.proofs.Numbers.{WriteNumber, write-numbers, JudgeNumber, judge-numbers, table-numbers, look-numbers, tell-numbers, RowNumber, row-start-numbers, row-ask-numbers, row-tell-numbers}
 use Rattle.demands.proofs.Answers.{one-size}
-use Rattle.demands.proofs.FlatAnswers.{opens-refuses, set-opens, verdict-opens, compared-opens, compared-accepted, built-opens, checked-opens, start-opens, ask-opens, tell-opens, answers-flat}
+use Rattle.demands.proofs.FlatAnswers.{opens-refuses, set-opens, written-opens, verdict-opens, kept-flat, kept-or-not, lost-flat, compared-opens, compared-accepted, covers-flat, built-opens, checked-opens, start-opens, ask-opens, tell-opens, answers-flat, refused-flat}
 use Rattle.demands.proofs.Demand1.{ask-refuses, row-ask-refuses}
-use Rattle.demands.proofs.Demand2.{guard-answers, row-answers}
+use Rattle.demands.proofs.Demand2.{verdict-kept, verdict-lost, comparison-covers, guard-answers, row-answers}
 
 -- no row has number 0
 at-least : (low high n : ℕ) → 1 ≤ low → from-to low high n → 1 ≤ n
@@ -55,9 +62,16 @@ at-least low high n h (l, u) = omega arith
 row-positive : (n : ℕ) → RowNumber n → 1 ≤ n
 row-positive n = ⊎-elim (λ e. omega arith) (λ h. at-least 10 12 n (omega arith) h)
 
+write-positive : (n : ℕ) → WriteNumber n → 1 ≤ n
+write-positive n = ⊎-elim (⊎-elim (λ e. omega arith) (λ h. at-least 5 7 n (omega arith) h)) (λ e. omega arith)
+
 -- Demand 1.
 pub floe-read-set-refuses : (b : List ℕ) (f : FloeSetRead) → FlatAnswer (ReadAs longest b) flatSet f → RefusesFlat (from-to 1 7) (first (setRows longest b)) (f .refused) (f .at)
 floe-read-set-refuses b f (a, read, e) = rw e (opens-refuses (from-to 1 7) (setRows longest b) (λ n (l, h). l) (set-numbers longest b) (set-opens a) (read .answer))
+
+pub floe-write-set-refuses : (s : LimitSet) (out out′ : List ℕ) (f : FloeWritten) → FlatAnswer (WrittenAs longest s out out′) flatWritten f → RefusesFlat WriteNumber (first (writeRows longest s out)) (f .refused) (f .at)
+floe-write-set-refuses s out out′ f (a, written, e) =
+    rw e (opens-refuses WriteNumber (writeRows longest s out) write-positive (write-numbers longest s out) (written-opens a) (written .answer))
 
 pub floe-judge-refuses : (b p : List ℕ) (f : FloeVerdict) → FlatAnswer (JudgedAs longest b p) flatVerdict f → RefusesFlat JudgeNumber (first (judgeRows longest b p)) (f .refused) (f .at)
 floe-judge-refuses b p f (a, judged, e) =
@@ -107,17 +121,46 @@ module _ (row row′ : List Guard) (job : ℕ) (b : List ℕ) where
   floe-row-tell-refuses byte f (a, told, e) =
       rw e (opens-refuses (from-to 10 14) (rowTellRows row job b byte) (λ n. at-least 10 14 n (omega arith)) (row-tell-numbers row job b byte) (tell-opens a) (told .refusal))
 
--- Demand 2.
+-- Demand 2. The verdict.
+module _ (set pattern : List ℕ) (f : FloeVerdict) (flat : FlatAnswer (JudgedAs longest set pattern) flatVerdict f) where
+  pub floe-judge-kept : (f .kept ≡ 1) ↔ Keeps set pattern
+  floe-judge-kept = Iff·trans (rw (flat .2) (kept-flat (flat .0))) (Iff·trans (verdict-kept set pattern (flat .0) (flat .1)) tested)
+    where
+      tested : ((first (judgeRows longest set pattern) ≡ passed) × KeptBy (setOf set) (outcomes pattern)) ↔ Keeps set pattern
+      tested = (
+        λ (e, k).
+            let (a, o) = all-passed (setRows longest set) (outcomeRows pattern 0) e in
+            record { accepted = a; outcomes-are-0-and-1 = outcomes-passed pattern 0 .0 o; kept = k },
+        λ h. (
+          first-append (setRows longest set) (outcomeRows pattern 0)
+              ∙ ap₂ and-then (h .accepted) (outcomes-passed pattern 0 .1 (h .outcomes-are-0-and-1)),
+          h .kept,
+        ),
+      )
+
+  pub floe-judge-kept-or-not : (f .kept ≡ 0) ⊎ (f .kept ≡ 1)
+  floe-judge-kept-or-not = rw (flat .2) (kept-or-not (flat .0))
+
+  pub floe-judge-lost : (j i : ℕ) → 1 ≤ j → ((f .job ≡ j) × (f .limit ≡ i)) ↔ ((first (judgeRows longest set pattern) ≡ passed) × LostAt (setOf set) (outcomes pattern) j i)
+  floe-judge-lost j i h = Iff·trans (rw (flat .2) (lost-flat (flat .0) j i h)) (verdict-lost set pattern (flat .0) (flat .1) j i)
+
+-- The comparison.
+pub floe-compare-covers : (a b : List ℕ) (f : FloeComparison) → FlatAnswer (ComparedAs longest a b) flatComparison f
+    → (f .covers ≡ 1) ↔ ((in-turn (first (setRows longest a)) (first (setRows longest b)) ≡ both-passed) × meant.Covers (setOf a) (setOf b))
+floe-compare-covers a b f flat = Iff·trans (covers-flat a b f flat) (comparison-covers a b (flat .0) (flat .1))
+
+-- A guard, alone and in a row: a refusal is answered by 3, whatever the table, and nothing else is.
+pub floe-guard-ask-refused : (b : List ℕ) (g : Guard) (f : FloeAsked) → FlatAnswer (AskedAs b g) flatAsked f → (f .answer ≡ 3) ↔ (f .refused ≡ 0 → ⊥)
+floe-guard-ask-refused b g f (a, asked, e) = rw e (refused-flat (a .answer) (λ n v q. at-least 10 12 n (omega arith) (ask-refuses b g a asked .numbers n v q)))
+
+pub floe-row-ask-refused : (row : List Guard) (job : ℕ) (b : List ℕ) (f : FloeRowAsked) → FlatAnswer (RowAskedAs row job b) flatAsk f → (f .answer ≡ 3) ↔ (f .refused ≡ 0 → ⊥)
+floe-row-ask-refused row job b f (a, asked, e) = rw e (refused-flat a (λ n v q. row-positive n (row-ask-refuses row job b a asked .numbers n v q)))
+
 pub floe-guard-ask-answers : (set b : List ℕ) → TableOf set b → (s : Started) → StartedAs b s → (told : List ℕ) (f : FloeAsked) → FlatAnswer (AskedAs b (toldAll b (s .guard) told)) flatAsked f
-    → ByKeptFlat (setOf set) (heard told) (f .refused) (f .answer)
-floe-guard-ask-answers set b t s started told f (a, asked, e) =
-    rw e (answers-flat (setOf set) (heard told) (a .answer)
-    (λ n v q. at-least 10 12 n (omega arith) (ask-refuses b (toldAll b (s .guard) told) a asked .numbers n v q))
-    (guard-answers set b t s started told a asked))
+    → ByKeptFlat (setOf set) (heard told) (f .answer)
+floe-guard-ask-answers set b t s started told f (a, asked, e) = rw e (answers-flat (setOf set) (heard told) (a .answer) (guard-answers set b t s started told a asked))
 
 pub floe-row-ask-answers : (set b : List ℕ) → TableOf set b → (row started last : List Guard) (job : ℕ) (calls : List RowCall) → RowStartedAs row job b start.Started started → RowRun started calls last
-    → OnTable b (callsOf job calls) → (f : FloeRowAsked) → FlatAnswer (RowAskedAs last job b) flatAsk f → ByKeptFlat (setOf set) (heard (bytesTold (callsOf job calls))) (f .refused) (f .answer)
+    → OnTable b (callsOf job calls) → (f : FloeRowAsked) → FlatAnswer (RowAskedAs last job b) flatAsk f → ByKeptFlat (setOf set) (heard (bytesTold (callsOf job calls))) (f .answer)
 floe-row-ask-answers set b t row started last job calls begin run on f (a, asked, e) =
-    rw e (answers-flat (setOf set) (heard (bytesTold (callsOf job calls))) a
-    (λ n v q. row-positive n (row-ask-refuses last job b a asked .numbers n v q))
-    (row-answers set b t row started last job calls begin run on a asked))
+    rw e (answers-flat (setOf set) (heard (bytesTold (callsOf job calls))) a (row-answers set b t row started last job calls begin run on a asked))

@@ -1,6 +1,6 @@
 -- What the flat form of an answer says: its number and what else is returned are those of the answer, and a guard's answer is known from its fields. Assumes nothing.
 use mathlib.Core.Path.{_≡_, refl, sym, ap, _∙_}
-use mathlib.Core.Logic.{_↔_, Iff·trans}
+use mathlib.Core.Logic.{_↔_, _⊎_, inl, inr, Iff·trans}
 use mathlib.Core.Bool.{Bool}
 use mathlib.Core.List.{List}
 use Prim.Native.Nat.{ℕ, _≤_}
@@ -15,6 +15,9 @@ use Rattle.sets.specs.declared.SetRead.{SetRead}
 use Rattle.sets.specs.declared.SetAnswer.{SetAnswer}
 use Rattle.sets.specs.declared.SetAnswer.the-variants as read
 use Rattle.sets.specs.Read.{says as read-says}
+use Rattle.sets.specs.declared.SetWritten.{SetWritten}
+use Rattle.sets.specs.declared.SetWritten.the-variants as write
+use Rattle.sets.specs.Write.{says as write-says}
 use Rattle.verdict.specs.declared.Judgement.{Judgement}
 use Rattle.verdict.specs.declared.Judgement.the-variants as judge
 use Rattle.verdict.specs.Judge.{says as judge-says}
@@ -35,7 +38,7 @@ use Rattle.guard.specs.declared.TellAnswer.{TellAnswer}
 use Rattle.guard.specs.declared.TellAnswer.the-variants as tell
 use Rattle.guard.specs.Guard.{startSays, askSays, tellSays}
 use Rattle.floelinnet.specs.declared.FloeComparison.{FloeComparison}
-use Rattle.floelinnet.specs.Flat.{FlatAnswer, flatCompared, flatComparison, flatSet, flatSetOf, flatVerdict, flatBuilt, flatChecked, flatStart, flatAsk, flatTell}
+use Rattle.floelinnet.specs.Flat.{FlatAnswer, flatCompared, flatComparison, flatSet, flatSetOf, flatWritten, flatVerdict, flatBuilt, flatChecked, flatStart, flatAsk, flatTell}
 use Rattle.demands.specs.Refusing.{RefusesFlat}
 use Rattle.demands.specs.Guarding.{ByKept, ByKeptFlat}
 use Rattle.demands.proofs.Answers.{one-of}
@@ -55,6 +58,10 @@ set-opens a = go (a .answer)
     go : (x : SetAnswer) → Opens (read-says x) (flatSetOf x (a .set) .refused) (flatSetOf x (a .set) .at)
     go read.Accepted = (refl, refl)
     go (read.Refused n v) = (refl, refl)
+
+pub written-opens : (a : SetWritten) → Opens (write-says a) (flatWritten a .refused) (flatWritten a .at)
+written-opens (write.Written n) = (refl, refl)
+written-opens (write.Refused n v) = (refl, refl)
 
 pub verdict-opens : (a : Judgement) → Opens (judge-says a) (flatVerdict a .refused) (flatVerdict a .at)
 verdict-opens judge.Kept = (refl, refl)
@@ -83,32 +90,51 @@ pub tell-opens : (a : TellAnswer) → Opens (tellSays a) (flatTell a .refused) (
 tell-opens tell.Told = (refl, refl)
 tell-opens (tell.Refused n v) = (refl, refl)
 
--- a guard's answer by its fields, since no refusal has number 0
-module _ (s : LimitSet) (p : List Bool) (a : AskAnswer) (positive : (n v : ℕ) → a ≡ ask.Refused n v → 1 ≤ n) (answers : ByKept s p a) where
-  pub answers-flat : ByKeptFlat s p (flatAsk a .refused) (flatAsk a .answer)
-  answers-flat = record {
-    normal = Iff·trans (normal a positive) (answers .normal);
-    panic = Iff·trans (panic a) (answers .panic);
-    lost = Iff·trans (lost a) (answers .lost);
-  }
+-- a guard's answer by its field
+module _ (s : LimitSet) (p : List Bool) (a : AskAnswer) (answers : ByKept s p a) where
+  pub answers-flat : ByKeptFlat s p (flatAsk a .answer)
+  answers-flat = record { normal = Iff·trans (normal a) (answers .normal); panic = Iff·trans (panic a) (answers .panic); lost = Iff·trans (lost a) (answers .lost) }
     where
-      normal : (a : AskAnswer) → ((n v : ℕ) → a ≡ ask.Refused n v → 1 ≤ n) → ((flatAsk a .refused ≡ 0) × (flatAsk a .answer ≡ 0)) ↔ (a ≡ ask.Normal)
-      normal ask.Normal h = (λ z. refl, λ z. (refl, refl))
-      normal ask.Panic h = (λ z. absurd (omega arith), λ z. let y : _≡_ {A = ℕ} 0 1 = cc in absurd (omega arith))
-      normal ask.Lost h = (λ z. absurd (omega arith), λ z. let y : _≡_ {A = ℕ} 0 1 = cc in absurd (omega arith))
-      normal (ask.Refused n v) h = (λ z. absurd (omega (arith, h n v refl)), λ z. let y : _≡_ {A = ℕ} 0 1 = cc in absurd (omega arith))
+      normal : (a : AskAnswer) → (flatAsk a .answer ≡ 0) ↔ (a ≡ ask.Normal)
+      normal ask.Normal = (λ z. refl, λ z. refl)
+      normal ask.Panic = (λ z. absurd (omega arith), λ z. let y : _≡_ {A = ℕ} 0 1 = cc in absurd (omega arith))
+      normal ask.Lost = (λ z. absurd (omega arith), λ z. let y : _≡_ {A = ℕ} 0 1 = cc in absurd (omega arith))
+      normal (ask.Refused n v) = (λ z. absurd (omega arith), λ z. let y : _≡_ {A = ℕ} 0 1 = cc in absurd (omega arith))
 
-      panic : (a : AskAnswer) → ((flatAsk a .refused ≡ 0) × (flatAsk a .answer ≡ 1)) ↔ (a ≡ ask.Panic)
+      panic : (a : AskAnswer) → (flatAsk a .answer ≡ 1) ↔ (a ≡ ask.Panic)
       panic ask.Normal = (λ z. absurd (omega arith), λ z. let y : _≡_ {A = ℕ} 0 1 = cc in absurd (omega arith))
-      panic ask.Panic = (λ z. refl, λ z. (refl, refl))
+      panic ask.Panic = (λ z. refl, λ z. refl)
       panic ask.Lost = (λ z. absurd (omega arith), λ z. let y : _≡_ {A = ℕ} 0 1 = cc in absurd (omega arith))
       panic (ask.Refused n v) = (λ z. absurd (omega arith), λ z. let y : _≡_ {A = ℕ} 0 1 = cc in absurd (omega arith))
 
-      lost : (a : AskAnswer) → ((flatAsk a .refused ≡ 0) × (flatAsk a .answer ≡ 2)) ↔ (a ≡ ask.Lost)
+      lost : (a : AskAnswer) → (flatAsk a .answer ≡ 2) ↔ (a ≡ ask.Lost)
       lost ask.Normal = (λ z. absurd (omega arith), λ z. let y : _≡_ {A = ℕ} 0 1 = cc in absurd (omega arith))
       lost ask.Panic = (λ z. absurd (omega arith), λ z. let y : _≡_ {A = ℕ} 0 1 = cc in absurd (omega arith))
-      lost ask.Lost = (λ z. refl, λ z. (refl, refl))
+      lost ask.Lost = (λ z. refl, λ z. refl)
       lost (ask.Refused n v) = (λ z. absurd (omega arith), λ z. let y : _≡_ {A = ℕ} 0 1 = cc in absurd (omega arith))
+
+-- and a refusal by it, since none has number 0
+pub refused-flat : (a : AskAnswer) → ((n v : ℕ) → a ≡ ask.Refused n v → 1 ≤ n) → (flatAsk a .answer ≡ 3) ↔ (flatAsk a .refused ≡ 0 → ⊥)
+refused-flat ask.Normal h = (λ z. absurd (omega arith), λ z. absurd (z refl))
+refused-flat ask.Panic h = (λ z. absurd (omega arith), λ z. absurd (z refl))
+refused-flat ask.Lost h = (λ z. absurd (omega arith), λ z. absurd (z refl))
+refused-flat (ask.Refused n v) h = (λ z e. omega (arith, h n v refl), λ z. refl)
+
+-- the verdict by its fields: a job is counted from 1
+pub kept-flat : (a : Judgement) → (flatVerdict a .kept ≡ 1) ↔ (a ≡ judge.Kept)
+kept-flat judge.Kept = (λ z. refl, λ z. refl)
+kept-flat (judge.Lost j i) = (λ z. absurd (omega arith), λ z. let y : _≡_ {A = ℕ} 0 1 = cc in absurd (omega arith))
+kept-flat (judge.Refused n v) = (λ z. absurd (omega arith), λ z. let y : _≡_ {A = ℕ} 0 1 = cc in absurd (omega arith))
+
+pub kept-or-not : (a : Judgement) → (flatVerdict a .kept ≡ 0) ⊎ (flatVerdict a .kept ≡ 1)
+kept-or-not judge.Kept = inr refl
+kept-or-not (judge.Lost j i) = inl refl
+kept-or-not (judge.Refused n v) = inl refl
+
+pub lost-flat : (a : Judgement) (j i : ℕ) → 1 ≤ j → ((flatVerdict a .job ≡ j) × (flatVerdict a .limit ≡ i)) ↔ (a ≡ judge.Lost j i)
+lost-flat judge.Kept j i h = (λ z. absurd (omega arith), λ z. let y : _≡_ {A = ℕ} 0 1 = cc in absurd (omega arith))
+lost-flat (judge.Lost k m) j i h = (λ (e, f). cc, λ z. let e : k ≡ j = cc in let f : m ≡ i = cc in (e, f))
+lost-flat (judge.Refused n v) j i h = (λ z. absurd (omega arith), λ z. let y : _≡_ {A = ℕ} 0 1 = cc in absurd (omega arith))
 
 -- the comparison, whose flat form also says which set
 module _ (a b : List ℕ) (f : FloeComparison) (flat : FlatAnswer (ComparedAs longest a b) flatComparison f) where
@@ -140,3 +166,11 @@ module _ (a b : List ℕ) (f : FloeComparison) (flat : FlatAnswer (ComparedAs lo
       go compare.Covers e = (λ (p, q, r). absurd (omega arith), λ z. let y : _≡_ {A = ℕ} 0 1 = cc in absurd (omega arith))
       go compare.Between e = (λ (p, q, r). absurd (omega arith), λ z. let y : _≡_ {A = ℕ} 0 1 = cc in absurd (omega arith))
       go (compare.Refused w k u) e = (λ (p, q, r). cc, λ z. let p : w ≡ which = cc in let q : k ≡ n = cc in let r : u ≡ v = cc in (p, q, r))
+
+  pub covers-flat : (f .covers ≡ 1) ↔ (x ≡ compare.Covers)
+  covers-flat = let e = ap (λ z. z .covers) (flat .2) in (λ z. go x .0 (sym e ∙ z), λ z. e ∙ go x .1 z)
+    where
+      go : (x : CompareAnswer) → (flatCompared x (flat .0 .pattern) .covers ≡ 1) ↔ (x ≡ compare.Covers)
+      go compare.Covers = (λ z. refl, λ z. refl)
+      go compare.Between = (λ z. absurd (omega arith), λ z. let y : _≡_ {A = ℕ} 0 1 = cc in absurd (omega arith))
+      go (compare.Refused w n v) = (λ z. absurd (omega arith), λ z. let y : _≡_ {A = ℕ} 0 1 = cc in absurd (omega arith))

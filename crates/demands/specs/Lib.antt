@@ -1,3 +1,4 @@
 pub mod Refusing
 pub mod TableOf
 pub mod Guarding
+pub mod Judging

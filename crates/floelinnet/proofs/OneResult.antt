@@ -3,8 +3,10 @@ use mathlib.Core.Path.{_≡_, sym, ap, _∙_}
 use mathlib.Core.List.{List}
 use Prim.Native.Nat.{ℕ}
 use Rattle.meaning.specs.Longest.{longest}
+use Rattle.meaning.specs.declared.LimitSet.{LimitSet}
 use Rattle.sets.specs.Read.{ReadAs}
-use Rattle.sets.proofs.OneResult.{read-one-result}
+use Rattle.sets.specs.Write.{WrittenAs}
+use Rattle.sets.proofs.OneResult.{read-one-result, written-one-result}
 use Rattle.verdict.specs.Judge.{JudgedAs}
 use Rattle.verdict.proofs.OneResult.{judge-one-result}
 use Rattle.compare.specs.Compare.{ComparedAs}
@@ -18,6 +20,7 @@ use Rattle.guard.specs.Guard.{StartedAs, AskedAs, ToldAs}
 use Rattle.guard.specs.Row.{RowStartedAs, RowAskedAs, RowToldAs}
 use Rattle.guard.proofs.OneResult.{start-one-result, ask-one-result, tell-one-result, row-start-one-result, row-ask-one-result, row-tell-one-result}
 use Rattle.floelinnet.specs.declared.FloeSetRead.{FloeSetRead}
+use Rattle.floelinnet.specs.declared.FloeWritten.{FloeWritten}
 use Rattle.floelinnet.specs.declared.FloeVerdict.{FloeVerdict}
 use Rattle.floelinnet.specs.declared.FloeComparison.{FloeComparison}
 use Rattle.floelinnet.specs.declared.FloeBuilt.{FloeBuilt}
@@ -27,13 +30,19 @@ use Rattle.floelinnet.specs.declared.FloeAsked.{FloeAsked}
 use Rattle.floelinnet.specs.declared.FloeTold.{FloeTold}
 use Rattle.floelinnet.specs.declared.FloeDone.{FloeDone}
 use Rattle.floelinnet.specs.declared.FloeRowAsked.{FloeRowAsked}
-use Rattle.floelinnet.specs.Flat.{FlatAnswer, flatSet, flatVerdict, flatComparison, flatBuilt, flatChecked, flatStart, flatAsk, flatTell, flatStarted, flatAsked, flatTold}
+use Rattle.floelinnet.specs.Flat.{FlatAnswer, flatSet, flatWritten, flatVerdict, flatComparison, flatBuilt, flatChecked, flatStart, flatAsk, flatTell, flatStarted, flatAsked, flatTold}
 
 one-flat : {A R : Type 0} (promise : A → Type 0) (flat : A → R) → ((a b : A) → promise a → promise b → a ≡ b) → (r t : R) → FlatAnswer promise flat r → FlatAnswer promise flat t → r ≡ t
 one-flat promise flat one r t (a, p, e) (b, q, f) = e ∙ ap flat (one a b p q) ∙ sym f
 
 pub floe-read-set-one-result : (b : List ℕ) (r t : FloeSetRead) → FlatAnswer (ReadAs longest b) flatSet r → FlatAnswer (ReadAs longest b) flatSet t → r ≡ t
 floe-read-set-one-result b = one-flat (ReadAs longest b) flatSet (read-one-result longest b)
+
+pub floe-write-set-one-result : (s : LimitSet) (out o o′ : List ℕ) (r t : FloeWritten) → FlatAnswer (WrittenAs longest s out o) flatWritten r → FlatAnswer (WrittenAs longest s out o′) flatWritten t
+    → (r ≡ t) × (o ≡ o′)
+floe-write-set-one-result s out o o′ r t (x, p, e) (y, q, f) =
+    let (same, outs) = written-one-result longest s out o o′ x y p q in
+    (e ∙ ap flatWritten same ∙ sym f, outs)
 
 pub floe-judge-one-result : (b p : List ℕ) (r t : FloeVerdict) → FlatAnswer (JudgedAs longest b p) flatVerdict r → FlatAnswer (JudgedAs longest b p) flatVerdict t → r ≡ t
 floe-judge-one-result b p = one-flat (JudgedAs longest b p) flatVerdict (judge-one-result longest b p)

@@ -3,6 +3,8 @@ use mathlib.Core.Path.{_≡_}
 use Rattle.sets.specs.declared.SetAnswer.{SetAnswer}
 use Rattle.sets.specs.declared.SetAnswer.the-variants as set
 use Rattle.sets.specs.declared.SetRead.{SetRead}
+use Rattle.sets.specs.declared.SetWritten.{SetWritten}
+use Rattle.sets.specs.declared.SetWritten.the-variants as written
 use Rattle.verdict.specs.declared.Judgement.{Judgement}
 use Rattle.verdict.specs.declared.Judgement.the-variants as verdict
 use Rattle.compare.specs.declared.CompareAnswer.{CompareAnswer}
@@ -24,6 +26,7 @@ use Rattle.guard.specs.declared.TellAnswer.{TellAnswer}
 use Rattle.guard.specs.declared.TellAnswer.the-variants as tell
 use Rattle.guard.specs.declared.Told.{Told}
 use Rattle.floelinnet.specs.declared.FloeSetRead.{FloeSetRead}
+use Rattle.floelinnet.specs.declared.FloeWritten.{FloeWritten}
 use Rattle.floelinnet.specs.declared.FloeVerdict.{FloeVerdict}
 use Rattle.floelinnet.specs.declared.FloeComparison.{FloeComparison}
 use Rattle.floelinnet.specs.declared.FloeBuilt.{FloeBuilt}
@@ -45,10 +48,15 @@ flatSetOf (set.Refused number at) s = record { refused = number; at = at; set = 
 abbrev pub flatSet : SetRead → FloeSetRead
 flatSet a = flatSetOf (a .answer) (a .set)
 
+abbrev pub flatWritten : SetWritten → FloeWritten
+flatWritten (written.Written length) = record { refused = 0; at = 0; length = length }
+flatWritten (written.Refused number at) = record { refused = number; at = at; length = 0 }
+
+-- kept is 1 or 0, and 0 on a refusal; job and limit are 0 where nothing is lost
 abbrev pub flatVerdict : Judgement → FloeVerdict
-flatVerdict verdict.Kept = record { refused = 0; at = 0; job = 0; limit = 0 }
-flatVerdict (verdict.Lost job limit) = record { refused = 0; at = 0; job = job; limit = limit }
-flatVerdict (verdict.Refused number at) = record { refused = number; at = at; job = 0; limit = 0 }
+flatVerdict verdict.Kept = record { refused = 0; at = 0; kept = 1; job = 0; limit = 0 }
+flatVerdict (verdict.Lost job limit) = record { refused = 0; at = 0; kept = 0; job = job; limit = limit }
+flatVerdict (verdict.Refused number at) = record { refused = number; at = at; kept = 0; job = 0; limit = 0 }
 
 abbrev pub flatCompared : CompareAnswer → Pattern → FloeComparison
 flatCompared comparison.Covers p = record { refused = 0; at = 0; which = 0; covers = 1; length = p .length; pattern = p .outcomes }
@@ -71,12 +79,12 @@ abbrev pub flatStart : StartAnswer → FloeDone
 flatStart start.Started = record { refused = 0; at = 0 }
 flatStart (start.Refused number at) = record { refused = number; at = at }
 
--- 0 normal, 1 panic, 2 lost; 0 on a refusal
+-- 0 normal, 1 panic, 2 lost, 3 refused
 abbrev pub flatAsk : AskAnswer → FloeRowAsked
 flatAsk ask.Normal = record { refused = 0; at = 0; answer = 0 }
 flatAsk ask.Panic = record { refused = 0; at = 0; answer = 1 }
 flatAsk ask.Lost = record { refused = 0; at = 0; answer = 2 }
-flatAsk (ask.Refused number at) = record { refused = number; at = at; answer = 0 }
+flatAsk (ask.Refused number at) = record { refused = number; at = at; answer = 3 }
 
 abbrev pub flatTell : TellAnswer → FloeDone
 flatTell tell.Told = record { refused = 0; at = 0 }

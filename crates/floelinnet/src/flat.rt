@@ -38,7 +38,7 @@ pub(crate) fn asked(answer: guard::AskAnswer) -> FloeRowAsked
         guard::AskAnswer::Refused { number, at } => FloeRowAsked {
             refused: number as u64,
             at: at as u64,
-            answer: 0,
+            answer: 3,
         },
     }
 }

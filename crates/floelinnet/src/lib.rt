@@ -2,12 +2,13 @@
 // Every answer begins with the number of the refusal, 0 for none, and what the rules return beside it.
 ghost use Rattle.meaning.specs.Longest.{longest};
 ghost use Rattle.sets.specs.Read.{ReadAs};
+ghost use Rattle.sets.specs.Write.{WrittenAs};
 ghost use Rattle.verdict.specs.Judge.{JudgedAs};
 ghost use Rattle.compare.specs.Compare.{ComparedAs};
 ghost use Rattle.builder.specs.Build.{BuiltAs};
 ghost use Rattle.table.specs.Check.{CheckedAs};
 ghost use Rattle.guard.specs.Guard.{StartedAs, AskedAs, ToldAs};
-ghost use Rattle.floelinnet.specs.Flat.{FlatAnswer, flatSet, flatVerdict, flatComparison, flatBuilt, flatChecked, flatStarted, flatAsked, flatTold};
+ghost use Rattle.floelinnet.specs.Flat.{FlatAnswer, flatSet, flatWritten, flatVerdict, flatComparison, flatBuilt, flatChecked, flatStarted, flatAsked, flatTold};
 use guard::Guard;
 use meaning::LimitSet;
 
@@ -25,11 +26,19 @@ pub struct FloeSetRead {
     pub set: LimitSet,
 }
 
-// job 0: kept.
+#[repr(C)]
+pub struct FloeWritten {
+    pub refused: u64,
+    pub at: u64,
+    pub length: u64,
+}
+
+// kept: 1 or 0, and 0 on a refusal.
 #[repr(C)]
 pub struct FloeVerdict {
     pub refused: u64,
     pub at: u64,
+    pub kept: u64,
     pub job: u64,
     pub limit: u64,
 }
@@ -66,7 +75,7 @@ pub struct FloeStarted {
     pub guard: Guard,
 }
 
-// answer: 0 normal, 1 panic, 2 lost; 0 on a refusal.
+// answer: 0 normal, 1 panic, 2 lost, 3 refused.
 #[repr(C)]
 pub struct FloeAsked {
     pub refused: u64,
@@ -88,7 +97,7 @@ pub struct FloeDone {
     pub at: u64,
 }
 
-// answer: 0 normal, 1 panic, 2 lost; 0 on a refusal.
+// answer: 0 normal, 1 panic, 2 lost, 3 refused.
 #[repr(C)]
 pub struct FloeRowAsked {
     pub refused: u64,
@@ -118,6 +127,24 @@ pub extern "C" fn floe_read_set(set: &[u8]) -> FloeSetRead
 }
 
 #[no_mangle]
+pub extern "C" fn floe_write_set(set: LimitSet, bytes: &mut [u8]) -> FloeWritten
+    ensures { λ r. ⌜ FlatAnswer (WrittenAs longest set (now (bytes .entry)) (now (bytes .exit))) flatWritten r ⌝ }
+{
+    match sets::write_set(set, bytes) {
+        sets::SetWritten::Written(size) => FloeWritten {
+            refused: 0,
+            at: 0,
+            length: size as u64,
+        },
+        sets::SetWritten::Refused { number, at } => FloeWritten {
+            refused: number as u64,
+            at: at as u64,
+            length: 0,
+        },
+    }
+}
+
+#[no_mangle]
 pub extern "C" fn floe_judge(set: &[u8], pattern: &[u8]) -> FloeVerdict
     ensures { λ r. ⌜ FlatAnswer (JudgedAs longest (now (set .entry)) (now (pattern .entry))) flatVerdict r ⌝ }
 {
@@ -125,18 +152,21 @@ pub extern "C" fn floe_judge(set: &[u8], pattern: &[u8]) -> FloeVerdict
         verdict::Judgement::Kept => FloeVerdict {
             refused: 0,
             at: 0,
+            kept: 1,
             job: 0,
             limit: 0,
         },
         verdict::Judgement::Lost { job, limit } => FloeVerdict {
             refused: 0,
             at: 0,
+            kept: 0,
             job,
             limit: limit as u64,
         },
         verdict::Judgement::Refused { number, at } => FloeVerdict {
             refused: number as u64,
             at: at as u64,
+            kept: 0, // what wasn't judged isn't kept
             job: 0,
             limit: 0,
         },

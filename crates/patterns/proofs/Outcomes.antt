@@ -1,18 +1,18 @@
 -- The test for 13, place by place: a byte that is 0 or 1 hands on to the next, any other is the answer; and one place is told by what it says of a pattern. Assumes nothing.
-use mathlib.Core.Path.{_≡_, sym, ap, _∙_}
-use mathlib.Core.Logic.{dite}
+use mathlib.Core.Path.{_≡_, refl, sym, ap, _∙_}
+use mathlib.Core.Logic.{_↔_, dite}
 use mathlib.Core.Bool.{Bool, false}
 use mathlib.Core.List.{List, [], _∷_, _++_}
-use Prim.Native.Nat.{ℕ, _+_, _≤_, _<_}
+use Prim.Native.Nat.{ℕ, zero, suc, _+_, _≤_, _<_}
 use native.Mathlib.Numerals.{add-one}
 use native.Mathlib.Decide.{decLt}
 use native.Mathlib.Omega.{arith}
-use borrow.Author.Tests.{lt-ltb, le-ltb}
+use borrow.Author.Tests.{lt-ltb, le-ltb, ltb-false}
 use lib.Dec.{ltb}
 use lib.ListN.{length, getD, take, drop, drop-of-length-le, length-map, List·getD-map}
 use lib.Seq.{drop-cons, take-suc}
-use Rattle.layout.specs.Refusal.{passed, refused, first}
-use Rattle.layout.proofs.Rows.{first-here, first-skip, passed-not-refused}
+use Rattle.layout.specs.Refusal.{row, passed, refused, first}
+use Rattle.layout.proofs.Rows.{first-here, first-skip, passed-first, passed-not-refused}
 use Rattle.patterns.specs.Outcome.{outcome, outcomes, outcomeRows}
 use Rattle.patterns.specs.Tested.{badPlace}
 
@@ -33,6 +33,19 @@ module _ (b : List ℕ) (i : ℕ) where
   pub outcome-end : length b ≤ i → first (outcomeRows (drop i b) i) ≡ passed
   unfolding outcomeRows first
   outcome-end h = ap (λ z. first (outcomeRows z i)) (drop-of-length-le b {i = i} h)
+
+-- nothing is refused exactly where every byte is 0 or 1
+pub outcomes-passed : (b : List ℕ) (k : ℕ) → (first (outcomeRows b k) ≡ passed) ↔ ((i : ℕ) → i < length b → getD b i 0 ≤ 1)
+unfolding outcomeRows first
+outcomes-passed [] k = (λ e i h. absurd (omega arith), λ h. refl)
+outcomes-passed (x ∷ b) k = (
+  λ e. let (good, rest) = passed-first (row 13 (ltb 1 x) k) (outcomeRows b (suc k)) e in each good (outcomes-passed b (suc k) .0 rest),
+  λ h. first-skip 13 k (ltb 1 x) (outcomeRows b (suc k)) (le-ltb 1 x (h 0 (omega arith))) ∙ outcomes-passed b (suc k) .1 (λ i l. h (suc i) (omega arith)),
+)
+  where
+    each : ltb 1 x ≡ false → ((i : ℕ) → i < length b → getD b i 0 ≤ 1) → (i : ℕ) → i < length (x ∷ b) → getD (x ∷ b) i 0 ≤ 1
+    each good rest zero l = ltb-false 1 x good
+    each good rest (suc i) l = rest i (omega arith)
 
 -- two places that say the same of a pattern, neither past its end, are one
 pub bad-place-one-result : (n r t : ℕ) → r ≤ n → t ≤ n → badPlace r n ≡ badPlace t n → r ≡ t

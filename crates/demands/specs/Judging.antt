@@ -1,0 +1,16 @@
+-- RULES, Kept: what demand 2 says of the bytes of a set and of a pattern. The set is accepted, the outcomes are 0 and 1, and the set keeps them.
+use mathlib.Core.Path.{_≡_}
+use mathlib.Core.List.{List}
+use Prim.Native.Nat.{ℕ, _≤_, _<_}
+use lib.ListN.{length, getD}
+use Rattle.layout.specs.Refusal.{passed, first}
+use Rattle.patterns.specs.Outcome.{outcomes}
+use Rattle.meaning.specs.Longest.{longest}
+use Rattle.meaning.specs.Sets.{KeptBy}
+use Rattle.sets.specs.Bytes.{setOf}
+use Rattle.sets.specs.Rows.{setRows}
+
+pub record Keeps (set pattern : List ℕ) : Type 0 where
+  pub accepted : first (setRows longest set) ≡ passed
+  pub outcomes-are-0-and-1 : (i : ℕ) → i < length pattern → getD pattern i 0 ≤ 1
+  pub kept : KeptBy (setOf set) (outcomes pattern)
