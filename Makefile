@@ -1,8 +1,19 @@
-# The commands of the repository. `rt` is Rattle's; cargo, C compilers, valgrind and pkg-config serve the tests, and
-# cargo the benchmarks.
+# The commands of the repository. `rt` is Rattle's; cargo, C and C++ compilers, valgrind and pkg-config serve the tests,
+# and cargo the benchmarks.
 ARCHIVE = target/staticlib/libfloelinnet.a
 SHELL = /bin/bash
 .SHELLFLAGS = -euo pipefail -c
+
+# A command of rt whose lines go to a file below target/; where it fails, its last lines are shown and the file is named.
+quietly = mkdir -p target; $(1) > target/$(2).log 2>&1 \
+	|| { tail -n 20 target/$(2).log; echo '`$(1)` failed: the whole log is target/$(2).log'; exit 1; } >&2
+
+# The table of a limits file: make table LIMITS=sets/any-hit-1-of-2.limits
+.PHONY: table
+table:
+	@test -r '$(LIMITS)' || { echo 'make table LIMITS=FILE: there is no such file' >&2; exit 1; }
+	@$(call quietly,rt check print_table,print_table)
+	@target/bin/print_table < '$(LIMITS)'
 
 # Everything that must pass. rt ci comes first, since it starts from nothing and removes target/: it proves every crate,
 # tries the must-fail edits and runs the programs. The tests from outside then use what it proved and built. Its last
@@ -13,23 +24,25 @@ test:
 
 # The tests from outside alone: the archive from C, C++ and Rust, and the printing program.
 .PHONY: outside
-outside: dist-links
-	rt check print_table
+outside: dist-links table-prints
 	cargo test --release --offline --quiet
 	cargo run --release --offline --quiet --example recorder | diff - examples/recorder.expected
 
 # What C and C++ programs are built with, in a folder that can be moved elsewhere.
 .PHONY: dist
 dist: $(ARCHIVE)
-	install -D -m 644 $(ARCHIVE) dist/lib/libfloelinnet.a
-	install -D -m 644 include/floelinnet.h dist/include/floelinnet.h
-	install -D -m 644 floelinnet.pc dist/lib/pkgconfig/floelinnet.pc
+	@install -D -m 644 $(ARCHIVE) dist/lib/libfloelinnet.a
+	@install -D -m 644 include/floelinnet.h dist/include/floelinnet.h
+	@install -D -m 644 floelinnet.pc dist/lib/pkgconfig/floelinnet.pc
 
-# README's way to compile the example.
-.PHONY: dist-links
+# README's two ways in: the example in C, and the first command, which prints its three lines and no other.
+.PHONY: dist-links table-prints
 dist-links: dist
 	$(CC) examples/recorder.c $$(PKG_CONFIG_PATH=dist/lib/pkgconfig pkg-config --cflags --libs floelinnet) -o target/recorder
 	target/recorder | diff - examples/recorder.expected
+
+table-prints:
+	$(MAKE) --no-print-directory table LIMITS=sets/any-hit-1-of-2.limits 2>&1 | diff - <(printf '%s\n' 'states 2' '0 1 0' '1 - 0')
 
 .PHONY: bench
 bench: $(ARCHIVE)
@@ -37,4 +50,4 @@ bench: $(ARCHIVE)
 
 .PHONY: $(ARCHIVE)
 $(ARCHIVE):
-	rt staticlib floelinnet
+	@$(call quietly,rt staticlib floelinnet,staticlib)

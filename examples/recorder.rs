@@ -5,10 +5,10 @@
 
 use std::process::ExitCode;
 
-use floelinnet::{build, Answer, Guard, Refused, LONGEST_TABLE, WORK_ENTRIES};
+use floelinnet::{build, Answer, Guard, Limit, LimitSet, Refused, LONGEST_TABLE, WORK_ENTRIES};
 
-/// At most 2 late readings in any 8, and never 2 in a row: AnyMiss(2,8), RowMiss(1).
-const LIMITS: [u8; 12] = [0, 0, 0, 8, 1, 2, 2, 2, 8, 3, 1, 0];
+/// At most 2 late readings in any 8, and never 2 in a row.
+const LIMITS: [Limit; 2] = [Limit::AnyMiss { x: 2, k: 8 }, Limit::RowMiss { x: 1 }];
 
 /// An operation in place of the clock: whether each reading came in time (1) or late (0).
 const OPERATION: [u8; 15] = [1, 1, 0, 1, 0, 1, 1, 1, 1, 1, 1, 0, 0, 1, 1];
@@ -26,8 +26,9 @@ fn main() -> ExitCode {
 }
 
 fn record() -> Result<(), Refused> {
+    let set = LimitSet::new(&LIMITS)?;
     let mut table = [0; LONGEST_TABLE];
-    let length = build(&LIMITS, &mut [0; WORK_ENTRIES], &mut table)?;
+    let length = build(set.bytes(), &mut [0; WORK_ENTRIES], &mut table)?;
     let table = &table[..length];
 
     let mut guard = Guard::start(table)?;

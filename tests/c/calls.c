@@ -1,7 +1,7 @@
 /*
  * Calls every function of the header, answered and refused, and prints every field of every answer in the words of
- * Rust's Debug, so that tests/c_programs.rs can lay its own calls beside these. All that is lent lies in blocks of its
- * exact size, so that valgrind sees a read or a write outside, and a use of what was never written.
+ * Rust's Debug, so that the test can lay its own calls beside these. All that is lent lies in blocks of its exact size,
+ * so that valgrind sees a read or a write outside, and a use of what was never written.
  */
 #include <floelinnet.h>
 #include <inttypes.h>
@@ -58,8 +58,15 @@ static void print_set_read(floe_set_read read) {
     end();
 }
 
+static void print_written(floe_written written) {
+    head("Written", written.refused, written.at);
+    field(", length: ", written.length);
+    end();
+}
+
 static void print_verdict(floe_verdict verdict) {
     head("Verdict", verdict.refused, verdict.at);
+    field(", kept: ", verdict.kept);
     field(", job: ", verdict.job);
     field(", limit: ", verdict.limit);
     end();
@@ -135,6 +142,20 @@ int main(void) {
     print_set_read(floe_read_set(faulty, sizeof faulty_bytes));
     print_set_read(floe_read_set(nothing, 0));
 
+    floe_set_read read = floe_read_set(set, sizeof set_bytes);
+    uint8_t *bytes = (uint8_t *)block(sizeof set_bytes);
+    print_written(floe_write_set(read.set, bytes, sizeof set_bytes));
+    print_bytes(bytes, sizeof set_bytes);
+    puts("");
+    print_written(floe_write_set(read.set, bytes, sizeof set_bytes - 1));
+    print_written(floe_write_set(read.set, nothing, 0));
+    read.set.limits[1].k = 13;
+    print_written(floe_write_set(read.set, bytes, sizeof set_bytes));
+    read.set.count = 9;
+    print_written(floe_write_set(read.set, bytes, sizeof set_bytes));
+    print_bytes(bytes, sizeof set_bytes);
+    puts("");
+
     print_verdict(floe_judge(set, sizeof set_bytes, pattern, sizeof pattern_bytes));
     print_verdict(floe_judge(set, sizeof set_bytes, nothing, 0));
     print_verdict(floe_judge(set, sizeof set_bytes, faulty_pattern, sizeof faulty_pattern_bytes));
@@ -199,6 +220,7 @@ int main(void) {
     free(pattern);
     free(faulty_pattern);
     free(nothing);
+    free(bytes);
     free(work);
     free(table);
     free(faulty_table);

@@ -21,9 +21,14 @@ int main(void) {
     FIELD(floe_set_read, refused);
     FIELD(floe_set_read, at);
     FIELD(floe_set_read, set);
+    RECORD(floe_written);
+    FIELD(floe_written, refused);
+    FIELD(floe_written, at);
+    FIELD(floe_written, length);
     RECORD(floe_verdict);
     FIELD(floe_verdict, refused);
     FIELD(floe_verdict, at);
+    FIELD(floe_verdict, kept);
     FIELD(floe_verdict, job);
     FIELD(floe_verdict, limit);
     RECORD(floe_comparison);

@@ -1,7 +1,8 @@
 //! The record in which an answer of the reference has to arrive.
 //!
 //! "a refused reading fills it with a set of count 0 and zeros, a refused comparison with a pattern of length 0, and a
-//! refused start with a guard that isn't lost, in state 0, told nothing"; what an answer doesn't use is zero too.
+//! refused start with a guard that isn't lost, in state 0, told nothing"; what an answer doesn't use is zero too, but for
+//! the answer of a refused ask, which is 3.
 
 use crate::floe;
 use crate::reference::compare::{Between, RefusedSet};
@@ -28,10 +29,17 @@ pub fn set_read(answer: Result<Vec<Limit>, Refusal>) -> floe::SetRead {
     read
 }
 
+pub fn written(answer: &Result<Vec<u8>, Refusal>) -> floe::Written {
+    match answer {
+        Ok(bytes) => floe::Written { length: bytes.len() as u64, ..Default::default() },
+        Err(refusal) => floe::Written { refused: numbers(*refusal).0, at: numbers(*refusal).1, length: 0 },
+    }
+}
+
 pub fn verdict(answer: Result<Option<Lost>, Refusal>) -> floe::Verdict {
     let mut verdict = floe::Verdict::default();
     match answer {
-        Ok(None) => {}
+        Ok(None) => verdict.kept = 1,
         Ok(Some(lost)) => (verdict.job, verdict.limit) = (lost.job as u64, lost.limit as u64),
         Err(refusal) => (verdict.refused, verdict.at) = numbers(refusal),
     }
@@ -90,7 +98,7 @@ pub fn told(before: Guard, answer: Result<Guard, Refusal>) -> floe::Told {
 
 pub fn row_asked(answer: Result<Answer, Refusal>) -> floe::RowAsked {
     let floe::Done { refused, at } = done(answer.map(drop));
-    floe::RowAsked { refused, at, answer: answer.map_or(0, |answer| answer as u64) }
+    floe::RowAsked { refused, at, answer: answer.map_or(3, |answer| answer as u64) }
 }
 
 pub fn asked(before: Guard, answer: Result<Answer, Refusal>) -> floe::Asked {

@@ -2,11 +2,11 @@
 //! tests/layout.rs holds the places of the records' fields fixed.
 
 pub use floelinnet::raw::{
-    Asked, Built, Checked, Comparison, Done, Guard, Limit, RowAsked, Set, SetRead, Started, Told, Verdict,
+    Asked, Built, Checked, Comparison, Done, Guard, Limit, RowAsked, Set, SetRead, Started, Told, Verdict, Written,
 };
 
 pub mod sets {
-    pub use floelinnet::raw::read_set;
+    pub use floelinnet::raw::{read_set, write_set};
 }
 
 pub mod verdict {

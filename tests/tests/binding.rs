@@ -80,6 +80,47 @@ fn sets_verdicts_and_comparisons() {
     assert!([0, 1, 2, 3, 4, 5, 6, 7, 13].iter().all(|&number| seen[number] > 50), "{seen:?}");
 }
 
+/// A set made of limits is what the reference writes of them, and what reading those bytes gives.
+#[test]
+fn sets_made_of_limits() {
+    let mut draw = Draw::new(84);
+    let mut seen = [0; 10];
+    for _ in 0..cases(100_000) {
+        let count = draw.below(10);
+        let limits: Vec<Limit> = (0..count)
+            .map(|_| {
+                let Limit { kind, x, k } = draw.limit();
+                let strange = draw.one_in(20);
+                Limit {
+                    kind,
+                    x: if strange { draw.byte() } else { x },
+                    k: if strange && kind < 3 { draw.byte() } else { k },
+                }
+            })
+            .collect();
+        let named: Vec<floelinnet::Limit> = limits
+            .iter()
+            .map(|&Limit { kind, x, k }| match kind {
+                0 => floelinnet::Limit::AnyHit { x, k },
+                1 => floelinnet::Limit::RowHit { x, k },
+                2 => floelinnet::Limit::AnyMiss { x, k },
+                _ => floelinnet::Limit::RowMiss { x },
+            })
+            .collect();
+        let mut places = [Limit { kind: 0, x: 0, k: 0 }; 8];
+        places.iter_mut().zip(&limits).for_each(|(place, limit)| *place = *limit);
+        let want = sets::write(count as u64, &places, 30);
+        let made = floelinnet::LimitSet::new(&named);
+        assert_eq!(made.map(|set| set.bytes().to_vec()).map_err(refusal), want, "{named:?}");
+        if let Ok(set) = made {
+            assert!(set.limits().eq(named), "{set:?}");
+            assert_eq!(floelinnet::read_set(set.bytes()), Ok(set));
+        }
+        seen[want.map_or_else(|refusal| usize::from(refusal.number), |_| 0)] += 1;
+    }
+    assert!([0, 3, 6, 7].iter().all(|&number| seen[number] > 1000), "{seen:?}");
+}
+
 #[test]
 fn builds() {
     let mut draw = Draw::new(82);

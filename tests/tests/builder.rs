@@ -99,7 +99,7 @@ fn walked_against_the_verdict() {
             next != 0xFFFF
         });
         let walked = walked.count() as u64;
-        let job = floe::verdict::judge(&set, &pattern).job;
-        assert_eq!(walked, if job == 0 { pattern.len() as u64 } else { job - 1 }, "{set:02X?} {pattern:?}");
+        let floe::Verdict { kept, job, .. } = floe::verdict::judge(&set, &pattern);
+        assert_eq!(walked, if kept == 1 { pattern.len() as u64 } else { job - 1 }, "{set:02X?} {pattern:?}");
     }
 }

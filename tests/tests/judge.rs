@@ -58,9 +58,9 @@ fn random_sets_on_longer_patterns() {
         let set = sets::bytes(&limits);
         let jobs = 13 + draw.below(48);
         let rarity = draw.of(&[1, 2, 3, 8]);
-        agree(&set, &draw.pattern(jobs, rarity));
+        let _ = agree(&set, &draw.pattern(jobs, rarity));
         let verdict = agree(&set, &surviving(&mut draw, &limits, jobs, rarity));
-        kept += usize::from(verdict.job == 0);
+        kept += verdict.kept as usize;
         lost_late += usize::from(verdict.job > 12);
     }
     assert!(kept > 100 && lost_late > 100, "kept {kept}, lost after job 12 {lost_late}");
@@ -129,7 +129,7 @@ fn outcome_bytes_that_are_no_outcomes() {
     }
     for byte in 0..=255 {
         // "those after the job at which it is lost too"
-        agree(&[0, 0, 0, 5, 1, 1, 0, 1, 1], &[0, 0, byte]);
+        assert_eq!(agree(&[0, 0, 0, 5, 1, 1, 0, 1, 1], &[0, 0, byte]).refused, if byte > 1 { 13 } else { 0 });
     }
 }
 

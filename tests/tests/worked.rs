@@ -1,10 +1,10 @@
 //! RULES, Patterns to try, by the reference and by the archive.
 
-use floelinnet_tests::floe;
 use floelinnet_tests::reference::limits::{panics, set_keeps, Limit};
 use floelinnet_tests::reference::table::{bytes, states};
 use floelinnet_tests::reference::verdict::{lost, Lost};
 use floelinnet_tests::reference::{compare, sets};
+use floelinnet_tests::{expected, floe};
 
 fn any_hit(x: u8, k: u8) -> Limit {
     Limit { kind: 0, x, k }
@@ -32,7 +32,7 @@ fn judged(limit: Limit, digits: &str, job: usize) {
     let want = (job > 0).then_some(Lost { job, limit: 0 });
     assert_eq!(lost(&[limit], &pattern), want, "{limit:?} on {digits}");
     let found = floe::verdict::judge(&sets::bytes(&[limit]), &pattern);
-    assert_eq!(found, floe::Verdict { job: job as u64, ..Default::default() }, "{limit:?} on {digits}");
+    assert_eq!(found, expected::verdict(Ok(want)), "{limit:?} on {digits}");
 }
 
 /// The empty text says that the first covers the second.

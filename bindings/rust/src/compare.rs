@@ -6,6 +6,7 @@ use crate::refused::accepted;
 use crate::{raw, Refused};
 
 /// What [`compare`] says of two sets.
+#[must_use]
 #[derive(Clone, Copy, PartialEq, Eq, Debug)]
 pub enum Comparison {
     /// Every pattern that the first set keeps, the second keeps too.

@@ -5,6 +5,7 @@ use crate::refused::accepted;
 use crate::{no_such, Refused};
 
 /// What a guard says before a job.
+#[must_use]
 #[derive(Clone, Copy, PartialEq, Eq, Hash, Debug)]
 pub enum Answer {
     /// A miss is still allowed.
@@ -72,6 +73,10 @@ impl Guard {
 
     /// Tells the guard, after a job, its outcome, [`HIT`](crate::HIT) or [`MISS`](crate::MISS), and gives the guard to
     /// go on with.
+    ///
+    /// A miss told in panic makes it lost, and no outcome brings a lost guard back. On a table that
+    /// [`build`](crate::build) made of a set, eleven hits in a row bring a guard that isn't lost back to what
+    /// [`start`](Guard::start) gave.
     ///
     /// Refuses by 10 to 12 as [`ask`](Guard::ask) does, then by 13. No outcome was told then, and the caller goes on
     /// with the guard that it has:

@@ -5,23 +5,24 @@
 //! itself. It keeps no state, allocates nothing and needs no standard library.
 //!
 //! An outcome is a byte, [`HIT`] or [`MISS`]; a pattern is a slice of them, oldest first. Sets of limits and tables are
-//! slices too, with the bytes that [`read_set`] and [`build`] describe.
+//! slices too, with the bytes that [`read_set`] and [`build`] describe; a [`LimitSet`] is made of [`Limit`]s and has such
+//! bytes.
 //!
 //! | to | call |
 //! |---|---|
-//! | read a set of limits | [`read_set`] |
+//! | make a set of limits, or read one | [`LimitSet::new`], [`read_set`] |
 //! | judge a pattern that is over | [`judge`] |
 //! | see whether one set demands as much as another | [`compare`] |
-//! | guard jobs while they run | [`build`] once, then [`Guard`], or [`row`] for several jobs |
+//! | guard jobs while they run | [`build`] once, then [`Guard`], or [`row`] for several jobs with the same limits |
 //! | check a table that comes from elsewhere | [`check_table`] |
 //!
 //! ```
-//! use floelinnet::{build, Answer, Guard, Refused, LONGEST_TABLE, MISS, WORK_ENTRIES};
+//! use floelinnet::{build, Answer, Guard, Limit, LimitSet, Refused, LONGEST_TABLE, MISS, WORK_ENTRIES};
 //!
-//! // At most 2 misses in any 8, and never 2 in a row: AnyMiss(2,8), RowMiss(1).
-//! let set = [0, 0, 0, 8, 1, 2, 2, 2, 8, 3, 1, 0];
+//! // At most 2 misses in any 8, and never 2 in a row.
+//! let set = LimitSet::new(&[Limit::AnyMiss { x: 2, k: 8 }, Limit::RowMiss { x: 1 }])?;
 //! let mut table = [0; LONGEST_TABLE];
-//! let length = build(&set, &mut [0; WORK_ENTRIES], &mut table)?;
+//! let length = build(set.bytes(), &mut [0; WORK_ENTRIES], &mut table)?;
 //! let table = &table[..length];
 //!
 //! let mut guard = Guard::start(table)?;
@@ -50,16 +51,23 @@ mod verdict;
 
 pub use compare::{compare, Comparison, Pattern, RefusedSet};
 pub use guard::Answer;
+#[doc(inline)]
 pub use raw::Guard;
 pub use refused::Refused;
 pub use sets::{read_set, Limit, LimitSet};
 pub use table::{build, check_table};
 pub use verdict::{judge, Verdict};
 
+/// The version of this crate, of the header and of the archive that they came with.
+pub const VERSION: &str = env!("CARGO_PKG_VERSION");
 /// A deadline that was missed.
 pub const MISS: u8 = 0;
 /// A deadline that was met.
 pub const HIT: u8 = 1;
+/// How many limits a set has at the most.
+pub const MOST_LIMITS: usize = 8;
+/// The length in bytes of the longest set.
+pub const LONGEST_SET: usize = 30;
 /// How many entries of 16 bits [`build`] needs to work.
 pub const WORK_ENTRIES: usize = 8192;
 /// The length in bytes of the longest table.
@@ -67,10 +75,11 @@ pub const LONGEST_TABLE: usize = 8199;
 /// How many guards a row has at the most.
 pub const MOST_GUARDS: usize = 16;
 
-/// README's Rust program runs as this crate's examples do.
+/// The Rust programs of README and of the cookbook run as this crate's examples do.
 #[cfg(doctest)]
 #[doc = include_str!("../../../README.md")]
-struct Readme;
+#[doc = include_str!("../../../docs/COOKBOOK.md")]
+struct Pages;
 
 /// A number that the library's proofs leave no room for. Whatever was answered instead would be a rule of this crate's
 /// own, so the call ends here.

@@ -4,6 +4,8 @@
 //! Names, fields and their order are those of `include/floelinnet.h`. This is the one place where Rust declares them,
 //! and the only one with unsafe code.
 
+use crate::MOST_LIMITS;
+
 /// A limit: its kind, and its numbers as the kind takes them.
 #[repr(C)]
 #[derive(Clone, Copy, Default, PartialEq, Eq, Debug)]
@@ -22,12 +24,24 @@ pub struct Limit {
 pub struct Set {
     /// How many limits it has.
     pub count: u64,
-    /// The limits; places from `count` on hold zeros.
-    pub limits: [Limit; 8],
+    /// The limits. Places from `count` on aren't looked at, and hold zeros where the set was read.
+    pub limits: [Limit; MOST_LIMITS],
 }
 
 /// Where one job stands on its table. It belongs to the table that it was started on; to copy it is to copy the job's
 /// standing. The default is a guard with nothing told, which is what a new row holds.
+///
+/// A guard that is told something is the one that comes back. To drop it is to tell nothing, and the compiler says so:
+///
+/// ```compile_fail
+/// #![deny(unused_must_use)]
+/// # use floelinnet::{Guard, Refused, MISS};
+/// # let table = [0, 0, 0, 11, 1, 0, 2, 0, 1, 0, 0, 0xFF, 0xFF, 0, 0];
+/// let guard = Guard::start(&table)?;
+/// guard.tell(&table, MISS)?;
+/// # Ok::<(), Refused>(())
+/// ```
+#[must_use = "a guard that was told something is this one, and the one before it wasn't"]
 #[repr(C)]
 #[derive(Clone, Copy, Default, PartialEq, Eq, Hash, Debug)]
 pub struct Guard {
@@ -41,6 +55,7 @@ pub struct Guard {
 macro_rules! answers {
     ($($(#[$says:meta])* $name:ident { $($(#[$holds:meta])* $field:ident: $kind:ty),* $(,)? })*) => {$(
         $(#[$says])*
+        #[must_use]
         #[repr(C)]
         #[derive(Clone, Copy, Default, PartialEq, Eq, Debug)]
         pub struct $name {
@@ -59,18 +74,25 @@ answers! {
         /// The set; of count 0 on a refusal.
         set: Set,
     }
+    /// What [`write_set`] answers.
+    Written {
+        /// How many bytes were written; 0 on a refusal.
+        length: u64,
+    }
     /// What [`judge`] answers.
     Verdict {
-        /// The job, from 1, at which the pattern is lost; 0 where it is kept.
+        /// 1 where the pattern is kept; 0 where it is lost, and on a refusal.
+        kept: u64,
+        /// The job, from 1, at which the pattern is lost; 0 where it isn't.
         job: u64,
-        /// The lowest-numbered limit, from 0, that doesn't keep the pattern up to that job.
+        /// The lowest-numbered limit, from 0, that doesn't keep the pattern up to that job; 0 where it isn't lost.
         limit: u64,
     }
     /// What [`compare`] answers.
     Comparison {
         /// The set that is refused, 1 or 2; 0 where none is.
         which: u64,
-        /// 1 where the first set covers the second.
+        /// 1 where the first set covers the second; 0 where it doesn't, and on a refusal.
         covers: u64,
         /// The length of the pattern between them.
         length: u64,
@@ -79,12 +101,12 @@ answers! {
     }
     /// What [`build`] answers.
     Built {
-        /// The table's length in bytes.
+        /// The table's length in bytes; 0 on a refusal.
         length: u64,
     }
     /// What [`check_table`] answers.
     Checked {
-        /// How many states the table has.
+        /// How many states the table has; 0 on a refusal.
         states: u64,
     }
     /// What [`guard_start`] answers.
@@ -94,7 +116,7 @@ answers! {
     }
     /// What [`guard_ask`] answers.
     Asked {
-        /// 0 normal, 1 panic, 2 lost.
+        /// 0 normal, 1 panic, 2 lost, 3 refused.
         answer: u64,
         /// The guard as it was handed in.
         guard: Guard,
@@ -108,13 +130,14 @@ answers! {
     Done {}
     /// What [`row_ask`] answers.
     RowAsked {
-        /// 0 normal, 1 panic, 2 lost.
+        /// 0 normal, 1 panic, 2 lost, 3 refused.
         answer: u64,
     }
 }
 
 extern "C" {
     fn floe_read_set(set: *const u8, set_len: usize) -> SetRead;
+    fn floe_write_set(set: Set, bytes: *mut u8, bytes_len: usize) -> Written;
     fn floe_judge(set: *const u8, set_len: usize, pattern: *const u8, pattern_len: usize) -> Verdict;
     fn floe_compare(first: *const u8, first_len: usize, second: *const u8, second_len: usize) -> Comparison;
     fn floe_build(
@@ -147,6 +170,11 @@ extern "C" {
 /// `floe_read_set`.
 pub fn read_set(set: &[u8]) -> SetRead {
     unsafe { floe_read_set(set.as_ptr(), set.len()) }
+}
+
+/// `floe_write_set`.
+pub fn write_set(set: Set, bytes: &mut [u8]) -> Written {
+    unsafe { floe_write_set(set, bytes.as_mut_ptr(), bytes.len()) }
 }
 
 /// `floe_judge`.

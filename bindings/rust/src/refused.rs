@@ -29,8 +29,8 @@ pub enum Refused {
     },
     /// 8: the work area has fewer than [`WORK_ENTRIES`](crate::WORK_ENTRIES) entries.
     WorkLength,
-    /// 9: the table buffer is shorter than the table.
-    TableRoom {
+    /// 9: the buffer is shorter than what must be written.
+    Room {
         /// The length in bytes that is needed.
         needed: usize,
     },
@@ -63,7 +63,7 @@ impl Refused {
             Refused::LimitK { .. } => 6,
             Refused::LimitX { .. } => 7,
             Refused::WorkLength => 8,
-            Refused::TableRoom { .. } => 9,
+            Refused::Room { .. } => 9,
             Refused::TableLength => 10,
             Refused::TableVersion => 11,
             Refused::States => 12,
@@ -76,7 +76,7 @@ impl Refused {
     pub fn at(self) -> usize {
         match self {
             Refused::LimitKind { limit } | Refused::LimitK { limit } | Refused::LimitX { limit } => limit,
-            Refused::TableRoom { needed } => needed,
+            Refused::Room { needed } => needed,
             Refused::Outcome { place } => place,
             _ => 0,
         }
@@ -98,7 +98,7 @@ impl fmt::Display for Refused {
             Refused::LimitK { limit } => write!(f, "the k of limit {limit} is outside its range"),
             Refused::LimitX { limit } => write!(f, "the x of limit {limit} is outside its range"),
             Refused::WorkLength => f.write_str("the work area has fewer than 8192 entries"),
-            Refused::TableRoom { needed } => write!(f, "the table buffer is shorter than {needed} bytes"),
+            Refused::Room { needed } => write!(f, "the buffer is shorter than the {needed} bytes to be written"),
             Refused::TableLength => {
                 f.write_str("the table has fewer than 7 bytes, or its length field isn't the count of bytes after it")
             }
@@ -130,7 +130,7 @@ pub(crate) fn accepted(refused: u64, at: u64) -> Result<(), Refused> {
         6 => Refused::LimitK { limit: at },
         7 => Refused::LimitX { limit: at },
         8 => Refused::WorkLength,
-        9 => Refused::TableRoom { needed: at },
+        9 => Refused::Room { needed: at },
         10 => Refused::TableLength,
         11 => Refused::TableVersion,
         12 => Refused::States,

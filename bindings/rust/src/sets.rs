@@ -1,7 +1,7 @@
 use core::fmt;
 
 use crate::refused::accepted;
-use crate::{no_such, raw, Refused};
+use crate::{no_such, raw, Refused, LONGEST_SET};
 
 /// One limit. Each says what has to hold in every window of its jobs.
 #[derive(Clone, Copy, PartialEq, Eq, Hash, Debug)]
@@ -45,6 +45,16 @@ impl Limit {
             _ => no_such("kind", kind.into()),
         }
     }
+
+    fn raw(self) -> raw::Limit {
+        let (kind, x, k) = match self {
+            Limit::AnyHit { x, k } => (0, x, k),
+            Limit::RowHit { x, k } => (1, x, k),
+            Limit::AnyMiss { x, k } => (2, x, k),
+            Limit::RowMiss { x } => (3, x, 0),
+        };
+        raw::Limit { kind, x, k }
+    }
 }
 
 /// As `AnyHit(1,2)`, and `RowMiss(2)`.
@@ -59,14 +69,57 @@ impl fmt::Display for Limit {
     }
 }
 
-/// A set of 1 to 8 limits, as [`read_set`] gives it.
-#[derive(Clone, Copy, PartialEq, Eq, Debug)]
-pub struct LimitSet(raw::Set);
+/// A set of 1 to 8 limits whose numbers are allowed: made of [`Limit`]s by [`LimitSet::new`], or read by [`read_set`].
+#[derive(Clone, Copy, PartialEq, Eq)]
+pub struct LimitSet {
+    set: raw::Set,
+    length: usize,
+    bytes: [u8; LONGEST_SET],
+}
 
 impl LimitSet {
+    /// The set of these limits, in this order. It is the library that judges them, when it writes the set's bytes.
+    ///
+    /// Refuses by 3, and by 6 and 7 with the number of the limit.
+    ///
+    /// ```
+    /// use floelinnet::{Limit, LimitSet, Refused};
+    ///
+    /// let set = LimitSet::new(&[Limit::AnyMiss { x: 2, k: 8 }, Limit::RowMiss { x: 1 }])?;
+    /// assert_eq!(set.bytes(), [0, 0, 0, 8, 1, 2, 2, 2, 8, 3, 1, 0]);
+    ///
+    /// assert_eq!(LimitSet::new(&[]), Err(Refused::LimitCount));
+    /// let window_too_long = Limit::AnyHit { x: 1, k: 13 };
+    /// assert_eq!(LimitSet::new(&[window_too_long]), Err(Refused::LimitK { limit: 0 }));
+    /// # Ok::<(), Refused>(())
+    /// ```
+    pub fn new(limits: &[Limit]) -> Result<LimitSet, Refused> {
+        let mut set = raw::Set { count: limits.len() as u64, ..Default::default() };
+        for (place, limit) in set.limits.iter_mut().zip(limits) {
+            *place = limit.raw();
+        }
+        let mut bytes = [0; LONGEST_SET];
+        let written = raw::write_set(set, &mut bytes);
+        accepted(written.refused, written.at)?;
+        Ok(LimitSet { set, length: written.length as usize, bytes })
+    }
+
+    /// The set's bytes, as [`read_set`], [`judge`](crate::judge), [`compare`](crate::compare) and
+    /// [`build`](crate::build) take them.
+    pub fn bytes(&self) -> &[u8] {
+        &self.bytes[..self.length]
+    }
+
     /// The limits, in the order in which verdicts and refusals number them from 0.
     pub fn limits(&self) -> impl ExactSizeIterator<Item = Limit> + '_ {
-        self.0.limits[..self.0.count as usize].iter().map(Limit::of)
+        self.set.limits[..self.set.count as usize].iter().map(Limit::of)
+    }
+}
+
+/// A list of its limits.
+impl fmt::Debug for LimitSet {
+    fn fmt(&self, f: &mut fmt::Formatter<'_>) -> fmt::Result {
+        f.debug_list().entries(self.limits()).finish()
     }
 }
 
@@ -87,5 +140,7 @@ impl LimitSet {
 pub fn read_set(set: &[u8]) -> Result<LimitSet, Refused> {
     let read = raw::read_set(set);
     accepted(read.refused, read.at)?;
-    Ok(LimitSet(read.set))
+    let mut bytes = [0; LONGEST_SET];
+    bytes[..set.len()].copy_from_slice(set);
+    Ok(LimitSet { set: read.set, length: set.len(), bytes })
 }

@@ -20,7 +20,7 @@ use crate::{raw, Refused};
 /// assert_eq!(table[..length], [0, 0, 0, 11, 1, 0, 2, 0, 1, 0, 0, 0xFF, 0xFF, 0, 0]);
 ///
 /// let too_short = build(&any_hit_1_of_2, &mut work, &mut table[..14]);
-/// assert_eq!(too_short, Err(Refused::TableRoom { needed: 15 }));
+/// assert_eq!(too_short, Err(Refused::Room { needed: 15 }));
 /// # Ok::<(), Refused>(())
 /// ```
 pub fn build(set: &[u8], work: &mut [u16], table: &mut [u8]) -> Result<usize, Refused> {

@@ -4,6 +4,7 @@ use crate::refused::accepted;
 use crate::{raw, Refused};
 
 /// What [`judge`] says of a pattern.
+#[must_use]
 #[derive(Clone, Copy, PartialEq, Eq, Hash, Debug)]
 pub enum Verdict {
     /// With endless hits before and after the pattern, every window of every limit holds.
@@ -41,10 +42,10 @@ impl fmt::Display for Verdict {
 /// # Ok::<(), Refused>(())
 /// ```
 pub fn judge(set: &[u8], pattern: &[u8]) -> Result<Verdict, Refused> {
-    let raw::Verdict { refused, at, job, limit } = raw::judge(set, pattern);
+    let raw::Verdict { refused, at, kept, job, limit } = raw::judge(set, pattern);
     accepted(refused, at)?;
-    Ok(match job {
-        0 => Verdict::Kept,
+    Ok(match kept {
+        1 => Verdict::Kept,
         _ => Verdict::Lost { job: job as usize, limit: limit as usize },
     })
 }

@@ -23,6 +23,17 @@ fn of_read_set() {
 }
 
 #[test]
+fn of_sets_made_of_limits() {
+    let read = read_set(&ALL_KINDS).unwrap();
+    let limits: Vec<Limit> = read.limits().collect();
+    let set = LimitSet::new(&limits).unwrap();
+    assert_eq!(set, read);
+    assert_eq!(set.bytes(), ALL_KINDS);
+    assert_eq!(format!("{:?}", LimitSet::new(&limits[3..]).unwrap()), "[RowMiss { x: 2 }]");
+    assert_eq!(LimitSet::new(&[limits[1]; MOST_LIMITS]).unwrap().bytes().len(), LONGEST_SET);
+}
+
+#[test]
 fn of_judge() {
     assert_eq!(judge(&ALL_KINDS, &[]), Ok(Verdict::Kept));
     assert_eq!(judge(&ALL_KINDS, &[1, 0, 1, 1, 0]).unwrap().to_string(), "kept");

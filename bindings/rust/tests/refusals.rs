@@ -32,13 +32,30 @@ fn of_sets() {
 }
 
 #[test]
+fn of_sets_made_of_limits() {
+    let refused = |limits: &[Limit]| LimitSet::new(limits).unwrap_err();
+    let one_of_two = Limit::AnyHit { x: 1, k: 2 };
+    for limits in [&[][..], &[one_of_two; MOST_LIMITS + 1]] {
+        says(refused(limits), 3, 0, "the set's count of limits is 0 or above 8");
+    }
+    says(refused(&[one_of_two, Limit::RowHit { x: 1, k: 13 }]), 6, 1, "the k of limit 1 is outside its range");
+    says(refused(&[one_of_two, Limit::AnyMiss { x: 3, k: 2 }]), 7, 1, "the x of limit 1 is outside its range");
+    says(refused(&[Limit::RowMiss { x: 12 }]), 7, 0, "the x of limit 0 is outside its range");
+}
+
+#[test]
 fn of_builds() {
     let mut work = [7; WORK_ENTRIES];
     let mut table = [7; 14];
     let refused = build(&SET, &mut work[1..], &mut table).unwrap_err();
     says(refused, 8, 0, "the work area has fewer than 8192 entries");
     assert_eq!(work, [7; WORK_ENTRIES]);
-    says(build(&SET, &mut work, &mut table).unwrap_err(), 9, 15, "the table buffer is shorter than 15 bytes");
+    says(
+        build(&SET, &mut work, &mut table).unwrap_err(),
+        9,
+        15,
+        "the buffer is shorter than the 15 bytes to be written",
+    );
     assert_eq!((work, table), ([0; WORK_ENTRIES], [7; 14]));
     assert_eq!(build(&SET[..8], &mut work, &mut table), Err(Refused::SetLength));
 }
@@ -105,7 +122,7 @@ fn of_comparisons() {
 #[test]
 fn as_errors() {
     fn read() -> Result<(), Box<dyn std::error::Error>> {
-        compare(&SET, &SET)?;
+        let _ = compare(&SET, &SET)?;
         read_set(&[])?;
         Ok(())
     }

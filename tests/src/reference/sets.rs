@@ -1,4 +1,4 @@
-//! RULES, Bytes of a set, and refusals 1 to 7.
+//! RULES, Bytes of a set and A set in memory: reading and writing.
 
 use super::limits::Limit;
 use super::{big_endian, refuse, Refusal};
@@ -29,6 +29,25 @@ pub fn read(bytes: &[u8]) -> Result<Vec<Limit>, Refusal> {
         test(limit, number)?;
     }
     Ok(limits)
+}
+
+/// "3; then limit after limit, each for 5, 6 and 7; then 9 with 6+3c". Of a set in memory "the records from the count on
+/// are not in use", and "nothing looks at them".
+pub fn write(count: u64, places: &[Limit; 8], room: usize) -> Result<Vec<u8>, Refusal> {
+    // "the count of a set in memory, is 0 or more than 8"
+    if count == 0 || count > 8 {
+        return refuse(3, 0);
+    }
+    let limits = &places[..count as usize];
+    for (number, limit) in limits.iter().enumerate() {
+        test(limit, number)?;
+    }
+    // "the buffer is too short for what must be written: .. 6+3c of a set"
+    let bytes = bytes(limits);
+    if room < bytes.len() {
+        return refuse(9, bytes.len());
+    }
+    Ok(bytes)
 }
 
 fn test(limit: &Limit, number: usize) -> Result<(), Refusal> {

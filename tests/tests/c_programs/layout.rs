@@ -1,11 +1,11 @@
 //! The records lie in memory as include/floelinnet.h declares them: in C, in Rust, and by the numbers that stand here.
 
-mod gcc;
-
 use std::mem::{align_of, offset_of, size_of, size_of_val};
 use std::process::Command;
 
 use floelinnet_tests::floe::*;
+
+use crate::programs::{compile, file, output};
 
 /// Holds Rust to the numbers, and gives them in the words of layout.c. `job 8 at 16`: 8 bytes from byte 16 on.
 macro_rules! lies {
@@ -29,7 +29,8 @@ fn rust_and_c_agree_with_the_numbers() {
         lies!(Set, floe_set, 32, 8, count 8 at 0, limits 24 at 8),
         lies!(Guard, floe_guard, 4, 2, state 2 at 0, lost 1 at 2),
         lies!(SetRead, floe_set_read, 48, 8, refused 8 at 0, at 8 at 8, set 32 at 16),
-        lies!(Verdict, floe_verdict, 32, 8, refused 8 at 0, at 8 at 8, job 8 at 16, limit 8 at 24),
+        lies!(Written, floe_written, 24, 8, refused 8 at 0, at 8 at 8, length 8 at 16),
+        lies!(Verdict, floe_verdict, 40, 8, refused 8 at 0, at 8 at 8, kept 8 at 16, job 8 at 24, limit 8 at 32),
         lies!(Comparison, floe_comparison, 56, 8,
             refused 8 at 0, at 8 at 8, which 8 at 16, covers 8 at 24, length 8 at 32, pattern 16 at 40),
         lies!(Built, floe_built, 24, 8, refused 8 at 0, at 8 at 8, length 8 at 16),
@@ -40,7 +41,9 @@ fn rust_and_c_agree_with_the_numbers() {
         lies!(Done, floe_done, 16, 8, refused 8 at 0, at 8 at 8),
         lies!(RowAsked, floe_row_asked, 24, 8, refused 8 at 0, at 8 at 8, answer 8 at 16),
     ];
-    let program = gcc::compile(&["gcc", "-std=c11"], "tests/c/layout.c");
-    let in_c = gcc::output(&mut Command::new(program));
-    assert_eq!(in_c.lines().collect::<Vec<_>>(), lines.concat());
+    for compiler in [&["gcc", "-std=c11"], &["clang", "-std=c11"]] {
+        let program = compile(compiler, &file("tests/c/layout.c"));
+        let in_c = output(&mut Command::new(program));
+        assert_eq!(in_c.lines().collect::<Vec<_>>(), lines.concat(), "{compiler:?}");
+    }
 }

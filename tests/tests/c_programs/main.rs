@@ -1,41 +1,32 @@
-//! C and C++ programs over the header: what they print, alone and under valgrind.
+//! C and C++ programs over the header: what they print, alone and under valgrind, and what compilers say of them.
 
-mod gcc;
+mod cookbook;
+mod layout;
+mod programs;
 
 use std::fs::read_to_string;
 use std::process::Command;
 
 use floelinnet_tests::floe::{builder, compare, guard, row, sets, table, verdict, Guard};
-
-/// The program prints these lines, compiled as C and as C++. Under valgrind it does so too, with nothing read that
-/// was never written, nothing touched outside what was lent and nothing left unreleased.
-fn prints(source: &str, lines: &[&str]) {
-    let c: &[&str] = &["gcc", "-std=c11", "-Wpedantic"];
-    let cpp: &[&str] = &["g++", "-x", "c++"];
-    for compiler in [c, cpp] {
-        let program = gcc::compile(compiler, source);
-        let alone = gcc::output(&mut Command::new(&program));
-        assert_eq!(alone.lines().collect::<Vec<_>>(), lines, "{program:?}");
-        let valgrind = &mut Command::new("valgrind");
-        valgrind.args(["--quiet", "--error-exitcode=9", "--leak-check=full"]).arg(&program);
-        assert_eq!(gcc::output(valgrind), alone, "{program:?} under valgrind");
-    }
-}
+use programs::{file, prints, COMPILERS};
 
 #[test]
 fn recorder() {
-    let expected = read_to_string(gcc::file("examples/recorder.expected")).unwrap();
-    prints("examples/recorder.c", &expected.lines().collect::<Vec<_>>());
+    let expected = read_to_string(file("examples/recorder.expected")).unwrap();
+    prints(&file("examples/recorder.c"), &expected.lines().collect::<Vec<_>>());
 }
 
 /// README shows the program that is tried here.
 #[test]
 fn readme_shows_the_recorder() {
-    let readme = read_to_string(gcc::file("README.md")).unwrap();
+    let readme = read_to_string(file("README.md")).unwrap();
     let (_, shown) = readme.split_once("```c\n").expect("README shows a C program");
     let (shown, _) = shown.split_once("```\n").expect("the C program ends");
-    assert_eq!(shown, read_to_string(gcc::file("examples/recorder.c")).unwrap());
+    assert_eq!(shown, read_to_string(file("examples/recorder.c")).unwrap());
 }
+
+/// How many functions the header declares.
+const FUNCTIONS: usize = 12;
 
 const SET: &[u8] = &[0, 0, 0, 8, 1, 2, 3, 2, 0, 2, 2, 5];
 const OTHER: &[u8] = &[0, 0, 0, 5, 1, 1, 2, 3, 7];
@@ -54,6 +45,18 @@ fn calls() {
     line!(sets::read_set(SET));
     line!(sets::read_set(FAULTY));
     line!(sets::read_set(&[]));
+
+    let mut set = sets::read_set(SET).set;
+    let mut bytes = [0; SET.len()];
+    line!(sets::write_set(set, &mut bytes));
+    line!(bytes);
+    line!(sets::write_set(set, &mut bytes[1..]));
+    line!(sets::write_set(set, &mut []));
+    set.limits[1].k = 13;
+    line!(sets::write_set(set, &mut bytes));
+    set.count = 9;
+    line!(sets::write_set(set, &mut bytes));
+    line!(bytes);
 
     line!(verdict::judge(SET, PATTERN));
     line!(verdict::judge(SET, &[]));
@@ -109,5 +112,61 @@ fn calls() {
     line!(row::start(&mut guards, 1, &built));
     line!(guards);
 
-    prints("tests/c/calls.c", &lines.iter().map(String::as_str).collect::<Vec<_>>());
+    prints(&file("tests/c/calls.c"), &lines.iter().map(String::as_str).collect::<Vec<_>>());
+}
+
+/// names.c says each constant of the header beside what the library makes of it.
+#[test]
+fn names() {
+    let rust = [
+        ("FLOE_MOST_LIMITS", floelinnet::MOST_LIMITS),
+        ("FLOE_LONGEST_SET", floelinnet::LONGEST_SET),
+        ("FLOE_WORK_ENTRIES", floelinnet::WORK_ENTRIES),
+        ("FLOE_LONGEST_TABLE", floelinnet::LONGEST_TABLE),
+        ("FLOE_MOST_GUARDS", floelinnet::MOST_GUARDS),
+        ("FLOE_MISS", floelinnet::MISS.into()),
+        ("FLOE_HIT", floelinnet::HIT.into()),
+    ];
+    let mut lines: Vec<String> = rust.iter().map(|(name, value)| format!("{name} {value}")).collect();
+    lines.push("every name is as the library has it".into());
+    prints(&file("tests/c/names.c"), &lines.iter().map(String::as_str).collect::<Vec<_>>());
+}
+
+/// dropped.c calls every function and drops what it answers: every compiler says so, of each.
+#[test]
+fn dropped_answers() {
+    let header = read_to_string(file("include/floelinnet.h")).unwrap();
+    assert_eq!(header.lines().filter(|line| line.starts_with("FLOE_NODISCARD ")).count(), FUNCTIONS);
+    for compiler in COMPILERS {
+        let warnings = programs::warnings(compiler, &file("tests/c/dropped.c"));
+        assert!(warnings.iter().all(|warning| warning.contains("[-Wunused-result]")), "{compiler:?}: {warnings:?}");
+        assert_eq!(warnings.len(), FUNCTIONS, "{compiler:?}: {warnings:?}");
+    }
+}
+
+/// "No call uses more than 1024 bytes of stack", says the header.
+#[test]
+fn stack() {
+    let program = programs::compile(&["gcc", "-std=c11"], &file("tests/c/stack.c"));
+    let said = programs::output(&mut Command::new(program));
+    let used: Vec<(&str, usize)> = said
+        .lines()
+        .map(|line| line.split_once(' ').expect("a name and a number"))
+        .map(|(name, bytes)| (name, bytes.parse().expect("a number")))
+        .collect();
+    assert_eq!(used.len(), FUNCTIONS);
+    assert!(used.iter().all(|&(_, bytes)| bytes > 0 && bytes <= 1024), "{used:?}");
+}
+
+/// One version for header, pkg-config and crate, and the changes begin with it.
+#[test]
+fn one_version() {
+    let header = read_to_string(file("include/floelinnet.h")).unwrap();
+    let package = read_to_string(file("floelinnet.pc")).unwrap();
+    let changes = read_to_string(file("CHANGELOG.md")).unwrap();
+    let version = floelinnet::VERSION;
+    assert!(header.contains(&format!("\n#define FLOE_VERSION \"{version}\"\n")));
+    assert!(package.contains(&format!("\nVersion: {version}\n")));
+    let newest = changes.lines().find(|line| line.starts_with("## ")).expect("the changes have a newest");
+    assert!(newest.starts_with(&format!("## {version}: ")), "{newest}");
 }

@@ -1,12 +1,27 @@
-//! C programs over the header and the archive.
+//! C and C++ programs over the header and the archive.
 
 use std::env;
 use std::path::{Path, PathBuf};
-use std::process::Command;
+use std::process::{Command, Output};
+
+/// The compilers and the editions of both languages that the header is written for.
+pub const COMPILERS: [&[&str]; 6] = [
+    &["gcc", "-std=c99"],
+    &["gcc", "-std=c11"],
+    &["g++", "-std=c++17", "-x", "c++"],
+    &["clang", "-std=c99"],
+    &["clang", "-std=c11"],
+    &["clang++", "-std=c++17", "-x", "c++"],
+];
 
 /// A file of the repository.
 pub fn file(path: &str) -> PathBuf {
     Path::new(env!("CARGO_MANIFEST_DIR")).join("..").join(path)
+}
+
+/// A file of the tests' own.
+pub fn made(name: &str) -> PathBuf {
+    Path::new(env!("CARGO_TARGET_TMPDIR")).join(name)
 }
 
 /// The archive that `rt staticlib floelinnet` makes, or the one in the folder that FLOELINNET_ARCHIVE_DIR names.
@@ -15,21 +30,54 @@ fn archive() -> PathBuf {
     Path::new(env!("CARGO_MANIFEST_DIR")).join(folder).join("libfloelinnet.a")
 }
 
-/// Compiles a C file of the repository with this compiler, without a warning, and gives the program.
-pub fn compile(compiler: &[&str], source: &str) -> PathBuf {
-    let name = format!("{}-{}", Path::new(source).file_stem().unwrap().to_string_lossy(), compiler[0]);
-    let program = Path::new(env!("CARGO_TARGET_TMPDIR")).join(name);
+/// The command that compiles a source with this compiler and asks for every warning.
+fn command(compiler: &[&str], source: &Path) -> Command {
     let mut command = Command::new(compiler[0]);
-    command.args(&compiler[1..]).args(["-Wall", "-Wextra", "-Werror", "-I"]).arg(file("include")).arg(file(source));
-    command.args(["-x", "none"]).arg(archive()).arg("-o").arg(&program);
-    output(&mut command);
+    command.args(&compiler[1..]).args(["-Wall", "-Wextra", "-Wpedantic", "-I"]).arg(file("include")).arg(source);
+    command
+}
+
+/// Compiles a source with this compiler, without a warning, and gives the program.
+pub fn compile(compiler: &[&str], source: &Path) -> PathBuf {
+    let stem = source.file_stem().expect("a source has a name").to_string_lossy();
+    let program = made(&format!("{stem}-{}{}", compiler[0], compiler[1]));
+    let mut command = command(compiler, source);
+    output(command.arg("-Werror").args(["-x", "none"]).arg(archive()).arg("-o").arg(&program));
     program
+}
+
+/// The program prints these lines, compiled by every compiler as C and as C++. Under valgrind it does so too, with
+/// nothing read that was never written, nothing touched outside what was lent and nothing left unreleased: as C by gcc
+/// and as C++ by clang.
+pub fn prints(source: &Path, lines: &[&str]) {
+    for compiler in COMPILERS {
+        let program = compile(compiler, source);
+        let alone = output(&mut Command::new(&program));
+        assert_eq!(alone.lines().collect::<Vec<_>>(), lines, "{program:?}");
+        if [COMPILERS[1], COMPILERS[5]].contains(&compiler) {
+            let valgrind = &mut Command::new("valgrind");
+            valgrind.args(["--quiet", "--error-exitcode=9", "--leak-check=full"]).arg(&program);
+            assert_eq!(output(valgrind), alone, "{program:?} under valgrind");
+        }
+    }
+}
+
+/// What this compiler warns of in a source, one line a warning.
+pub fn warnings(compiler: &[&str], source: &Path) -> Vec<String> {
+    let Output { status, stderr, .. } = run(command(compiler, source).args(["-c", "-o", "/dev/null"]));
+    let said = String::from_utf8_lossy(&stderr);
+    assert!(status.success(), "{compiler:?}: {said}");
+    said.lines().filter(|line| line.contains("warning:")).map(Into::into).collect()
+}
+
+fn run(command: &mut Command) -> Output {
+    command.output().unwrap_or_else(|error| panic!("{command:?}: {error}"))
 }
 
 /// Runs a command that ends with status 0 and says nothing on standard error, and gives its standard output.
 pub fn output(command: &mut Command) -> String {
-    let output = command.output().unwrap_or_else(|error| panic!("{command:?}: {error}"));
-    let errors = String::from_utf8_lossy(&output.stderr);
-    assert!(output.status.success() && errors.is_empty(), "{command:?}: {}\n{errors}", output.status);
-    String::from_utf8(output.stdout).expect("the output is text")
+    let Output { status, stdout, stderr } = run(command);
+    let errors = String::from_utf8_lossy(&stderr);
+    assert!(status.success() && errors.is_empty(), "{command:?}: {status}\n{errors}");
+    String::from_utf8(stdout).expect("the output is text")
 }

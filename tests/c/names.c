@@ -1,0 +1,131 @@
+/*
+ * Ties the header's names to the library: each constant to the calls that it is for, one at the bound and one past it,
+ * each kind to patterns that it keeps and doesn't, each answer and each refusal to a call that gives it. Says the
+ * constants that Rust has too, for the test to compare.
+ */
+#include <floelinnet.h>
+#include <stdio.h>
+#include <stdlib.h>
+#include <string.h>
+
+#define SAY(name) printf(#name " %d\n", (int)(name))
+#define HOLDS(fact) ((fact) ? (void)0 : fail(__LINE__, #fact))
+
+static void fail(int line, const char *fact) {
+    printf("line %d: %s\n", line, fact);
+    exit(1);
+}
+
+static uint16_t work[FLOE_WORK_ENTRIES];
+static uint8_t table[FLOE_LONGEST_TABLE + 4];
+
+/* What judging an empty pattern under a set of one limit is refused by. */
+static uint64_t refused(floe_limit limit) {
+    const uint8_t set[] = {0, 0, 0, 5, 1, 1, limit.kind, limit.x, limit.k};
+    return floe_judge(set, sizeof set, set, 0).refused;
+}
+
+static floe_limit limit(int kind, int x, int k) {
+    floe_limit limit = {(uint8_t)kind, (uint8_t)x, (uint8_t)k};
+    return limit;
+}
+
+/* A table of n states, all of which lead to state 0. */
+static size_t table_of(size_t n) {
+    size_t after = 3 + 4 * n;
+    const uint8_t head[] = {0, 0, (uint8_t)(after >> 8), (uint8_t)after, 1, (uint8_t)(n >> 8), (uint8_t)n};
+    memset(table, 0, sizeof table);
+    memcpy(table, head, sizeof head);
+    return 4 + after;
+}
+
+/* Each kind by what it means: the three patterns tell these limits apart. */
+static void kinds(void) {
+    const struct { uint8_t kind, x, k; bool two, three, apart; } kinds[] = {
+        {FLOE_ANY_HIT, 1, 3, true, false, true},
+        {FLOE_ROW_HIT, 2, 4, false, false, false},
+        {FLOE_ANY_MISS, 3, 5, true, true, true},
+        {FLOE_ROW_MISS, 1, 0, false, false, true},
+    };
+    const uint8_t misses[] = {FLOE_MISS, FLOE_MISS, FLOE_MISS}, apart[] = {FLOE_MISS, FLOE_HIT, FLOE_MISS};
+    for (size_t i = 0; i < sizeof kinds / sizeof *kinds; i++) {
+        const uint8_t set[] = {0, 0, 0, 5, 1, 1, kinds[i].kind, kinds[i].x, kinds[i].k};
+        HOLDS(floe_judge(set, sizeof set, misses, 2).kept == kinds[i].two);
+        HOLDS(floe_judge(set, sizeof set, misses, 3).kept == kinds[i].three);
+        HOLDS(floe_judge(set, sizeof set, apart, 3).kept == kinds[i].apart);
+    }
+    HOLDS(refused(limit(FLOE_ROW_MISS + 1, 0, 1)) == FLOE_REFUSED_LIMIT_KIND);
+}
+
+static void sizes(void) {
+    uint8_t set[FLOE_LONGEST_SET + 3];
+    floe_set most = {FLOE_MOST_LIMITS, {{FLOE_ROW_MISS, 1, 0}}};
+    for (size_t i = 0; i < FLOE_MOST_LIMITS; i++) most.limits[i] = most.limits[0];
+    HOLDS(floe_write_set(most, set, FLOE_LONGEST_SET).length == FLOE_LONGEST_SET);
+    HOLDS(floe_write_set(most, set, FLOE_LONGEST_SET - 1).at == FLOE_LONGEST_SET);
+    HOLDS(floe_build(set, FLOE_LONGEST_SET, work, FLOE_WORK_ENTRIES, table, sizeof table).refused == FLOE_ACCEPTED);
+    HOLDS(floe_build(set, FLOE_LONGEST_SET, work, FLOE_WORK_ENTRIES - 1, table, sizeof table).refused
+          == FLOE_REFUSED_WORK_LENGTH);
+    most.count = FLOE_MOST_LIMITS + 1;
+    HOLDS(floe_write_set(most, set, sizeof set).refused == FLOE_REFUSED_LIMIT_COUNT);
+
+    HOLDS(table_of(2048) == FLOE_LONGEST_TABLE);
+    HOLDS(floe_check_table(table, FLOE_LONGEST_TABLE).states == 2048);
+    HOLDS(floe_check_table(table, table_of(2049)).refused == FLOE_REFUSED_STATES);
+
+    floe_guard row[FLOE_MOST_GUARDS + 1] = {{0, false}};
+    size_t length = table_of(1);
+    HOLDS(floe_row_start(row, FLOE_MOST_GUARDS, FLOE_MOST_GUARDS - 1, table, length).refused == FLOE_ACCEPTED);
+    HOLDS(floe_row_start(row, FLOE_MOST_GUARDS, FLOE_MOST_GUARDS, table, length).refused == FLOE_REFUSED_JOB);
+    HOLDS(floe_row_start(row, FLOE_MOST_GUARDS + 1, 0, table, length).refused == FLOE_REFUSED_JOB);
+}
+
+/* AnyHit(1,2): after a miss a hit. */
+static void answers(void) {
+    const uint8_t one_of_two[] = {0, 0, 0, 11, 1, 0, 2, 0, 1, 0, 0, 0xFF, 0xFF, 0, 0};
+    floe_guard guard = floe_guard_start(one_of_two, sizeof one_of_two).guard;
+    HOLDS(floe_guard_ask(guard, one_of_two, sizeof one_of_two).answer == FLOE_NORMAL);
+    HOLDS(floe_guard_ask(guard, one_of_two, 14).answer == FLOE_REFUSED);
+    guard = floe_guard_tell(guard, one_of_two, sizeof one_of_two, FLOE_MISS).guard;
+    HOLDS(floe_guard_ask(guard, one_of_two, sizeof one_of_two).answer == FLOE_PANIC);
+    HOLDS(floe_row_ask(&guard, 1, 0, one_of_two, sizeof one_of_two).answer == FLOE_PANIC);
+    guard = floe_guard_tell(guard, one_of_two, sizeof one_of_two, FLOE_MISS).guard;
+    HOLDS(floe_guard_ask(guard, one_of_two, sizeof one_of_two).answer == FLOE_LOST);
+    HOLDS(floe_row_ask(&guard, 1, 1, one_of_two, sizeof one_of_two).answer == FLOE_REFUSED);
+}
+
+static void refusals(void) {
+    const uint8_t version_2[] = {0, 0, 0, 5, 2, 1, FLOE_ANY_HIT, 1, 2}, two_limits[] = {0, 0, 0, 5, 1, 2, 0, 1, 2};
+    const uint8_t none[] = {0, 0, 0, 2, 1, 0}, one_of_two[] = {0, 0, 0, 5, 1, 1, FLOE_ANY_HIT, 1, 2}, no_outcome[] = {2};
+    floe_guard guard = {0, false};
+    HOLDS(floe_read_set(one_of_two, sizeof one_of_two).refused == FLOE_ACCEPTED);
+    HOLDS(floe_read_set(one_of_two, 8).refused == FLOE_REFUSED_SET_LENGTH);
+    HOLDS(floe_read_set(version_2, sizeof version_2).refused == FLOE_REFUSED_SET_VERSION);
+    HOLDS(floe_read_set(none, sizeof none).refused == FLOE_REFUSED_LIMIT_COUNT);
+    HOLDS(floe_read_set(two_limits, sizeof two_limits).refused == FLOE_REFUSED_LIMITS_LENGTH);
+    HOLDS(refused(limit(FLOE_ANY_HIT, 1, 13)) == FLOE_REFUSED_LIMIT_K);
+    HOLDS(refused(limit(FLOE_ANY_HIT, 3, 2)) == FLOE_REFUSED_LIMIT_X);
+    HOLDS(floe_build(one_of_two, sizeof one_of_two, work, FLOE_WORK_ENTRIES, table, 0).refused == FLOE_REFUSED_ROOM);
+    size_t length = table_of(1);
+    HOLDS(floe_check_table(table, length - 1).refused == FLOE_REFUSED_TABLE_LENGTH);
+    HOLDS(floe_guard_tell(guard, table, length, 2).refused == FLOE_REFUSED_OUTCOME);
+    HOLDS(floe_judge(one_of_two, sizeof one_of_two, no_outcome, 1).refused == FLOE_REFUSED_OUTCOME);
+    table[4] = 2;
+    HOLDS(floe_check_table(table, length).refused == FLOE_REFUSED_TABLE_VERSION);
+}
+
+int main(void) {
+    SAY(FLOE_MOST_LIMITS);
+    SAY(FLOE_LONGEST_SET);
+    SAY(FLOE_WORK_ENTRIES);
+    SAY(FLOE_LONGEST_TABLE);
+    SAY(FLOE_MOST_GUARDS);
+    SAY(FLOE_MISS);
+    SAY(FLOE_HIT);
+    kinds();
+    sizes();
+    answers();
+    refusals();
+    puts("every name is as the library has it");
+    return 0;
+}

@@ -1,0 +1,96 @@
+/*
+ * How much stack each function uses: it is called on a stack that was painted before, and what is no longer painted was
+ * used. Counted from a call that does nothing, with the record of the answer, the largest over a few inputs.
+ */
+#define _XOPEN_SOURCE 700
+#include <floelinnet.h>
+#include <stdio.h>
+#include <string.h>
+#include <ucontext.h>
+
+enum { STACK = 1 << 16, PAINT = 0xA5 };
+
+static unsigned char stack[STACK];
+static ucontext_t outside, inside;
+
+static const floe_set all_kinds = {8, {{FLOE_ANY_HIT, 3, 9}, {FLOE_ROW_HIT, 2, 9}, {FLOE_ANY_MISS, 7, 12},
+                                       {FLOE_ROW_MISS, 3, 0}, {FLOE_ANY_HIT, 2, 10}, {FLOE_ROW_HIT, 1, 5},
+                                       {FLOE_ANY_MISS, 8, 11}, {FLOE_ROW_MISS, 4, 0}}};
+static uint8_t set[FLOE_LONGEST_SET], other[] = {0, 0, 0, 5, 1, 1, FLOE_ANY_HIT, 6, 12}, table[FLOE_LONGEST_TABLE];
+static uint16_t work[FLOE_WORK_ENTRIES];
+static size_t set_len, table_len;
+static const uint8_t pattern[] = {0, 0, 1, 0, 1, 1, 0, 0, 1, 0, 1, 1, 1, 1, 0, 1, 0, 1, 1, 0};
+static floe_guard row[FLOE_MOST_GUARDS], guard;
+
+/* Each call of a function is one more of its name; answers are used, so that the calls stay. */
+static volatile uint64_t used_up;
+#define CALL(name, number, call) \
+    static void name##_##number(void) { used_up = (call).refused; }
+
+CALL(floe_read_set, 0, floe_read_set(set, set_len))
+CALL(floe_read_set, 1, floe_read_set(set, set_len - 1))
+CALL(floe_write_set, 0, floe_write_set(all_kinds, set, sizeof set))
+CALL(floe_write_set, 1, floe_write_set(all_kinds, set, 0))
+CALL(floe_judge, 0, floe_judge(set, set_len, pattern, sizeof pattern))
+CALL(floe_judge, 1, floe_judge(set, set_len, set, set_len))
+CALL(floe_compare, 0, floe_compare(set, set_len, other, sizeof other))
+CALL(floe_compare, 1, floe_compare(other, sizeof other, other, sizeof other))
+CALL(floe_build, 0, floe_build(set, set_len, work, FLOE_WORK_ENTRIES, table, sizeof table))
+CALL(floe_build, 1, floe_build(other, sizeof other, work, FLOE_WORK_ENTRIES, table, 0))
+CALL(floe_check_table, 0, floe_check_table(table, table_len))
+CALL(floe_check_table, 1, floe_check_table(table, table_len - 1))
+CALL(floe_guard_start, 0, floe_guard_start(table, table_len))
+CALL(floe_guard_start, 1, floe_guard_start(table, table_len - 1))
+CALL(floe_guard_ask, 0, floe_guard_ask(guard, table, table_len))
+CALL(floe_guard_ask, 1, floe_guard_ask(guard, table, table_len - 1))
+CALL(floe_guard_tell, 0, floe_guard_tell(guard, table, table_len, FLOE_MISS))
+CALL(floe_guard_tell, 1, floe_guard_tell(guard, table, table_len, 2))
+CALL(floe_row_start, 0, floe_row_start(row, FLOE_MOST_GUARDS, 3, table, table_len))
+CALL(floe_row_start, 1, floe_row_start(row, FLOE_MOST_GUARDS, 16, table, table_len))
+CALL(floe_row_ask, 0, floe_row_ask(row, FLOE_MOST_GUARDS, 3, table, table_len))
+CALL(floe_row_ask, 1, floe_row_ask(row, FLOE_MOST_GUARDS, 16, table, table_len))
+CALL(floe_row_tell, 0, floe_row_tell(row, FLOE_MOST_GUARDS, 3, table, table_len, FLOE_MISS))
+CALL(floe_row_tell, 1, floe_row_tell(row, FLOE_MOST_GUARDS, 3, table, table_len, 2))
+
+static void nothing(void) {
+    used_up = 0;
+}
+
+static size_t used(void (*call)(void)) {
+    memset(stack, PAINT, sizeof stack);
+    getcontext(&inside);
+    inside.uc_stack.ss_sp = stack;
+    inside.uc_stack.ss_size = sizeof stack;
+    inside.uc_link = &outside;
+    makecontext(&inside, call, 0);
+    swapcontext(&outside, &inside);
+    size_t free = 0;
+    while (stack[free] == PAINT) free++;
+    return sizeof stack - free;
+}
+
+static void say(const char *name, void (*one)(void), void (*other_one)(void)) {
+    size_t a = used(one), b = used(other_one);
+    printf("%s %zu\n", name, (a > b ? a : b) - used(nothing));
+}
+
+#define SAY(name) say(#name, name##_0, name##_1)
+
+int main(void) {
+    set_len = floe_write_set(all_kinds, set, sizeof set).length;
+    table_len = floe_build(set, set_len, work, FLOE_WORK_ENTRIES, table, sizeof table).length;
+    if (table_len == 0) return 1;
+    SAY(floe_read_set);
+    SAY(floe_write_set);
+    SAY(floe_judge);
+    SAY(floe_compare);
+    SAY(floe_build);
+    SAY(floe_check_table);
+    SAY(floe_guard_start);
+    SAY(floe_guard_ask);
+    SAY(floe_guard_tell);
+    SAY(floe_row_start);
+    SAY(floe_row_ask);
+    SAY(floe_row_tell);
+    return 0;
+}

@@ -1,0 +1,59 @@
+//! floe_write_set against the reference.
+
+use floelinnet_tests::draw::{cases, Draw};
+use floelinnet_tests::reference::limits::Limit;
+use floelinnet_tests::reference::sets;
+use floelinnet_tests::{expected, floe};
+
+/// Both answers agree, and the buffer holds the set's bytes and past them what it held; gives the number of the refusal.
+fn agree(draw: &mut Draw, count: u64, places: [Limit; 8], room: usize) -> usize {
+    let set = floe::Set { count, limits: places.map(|Limit { kind, x, k }| floe::Limit { kind, x, k }) };
+    let before: Vec<u8> = (0..room).map(|_| draw.byte()).collect();
+    let want = sets::write(count, &places, room);
+    let mut found = before.clone();
+    assert_eq!(floe::sets::write_set(set, &mut found), expected::written(&want), "write_set {set:?} into {room} bytes");
+    let mut after = before;
+    if let Ok(bytes) = &want {
+        after[..bytes.len()].copy_from_slice(bytes);
+        assert_eq!(sets::read(bytes).as_deref(), Ok(&places[..count as usize]), "what was written is read");
+    }
+    assert_eq!(found, after, "the buffer after write_set {set:?} into {room} bytes");
+    want.map_or_else(|refusal| usize::from(refusal.number), |_| 0)
+}
+
+const NONE: Limit = Limit { kind: 0, x: 0, k: 0 };
+
+/// One limit, with the same in the places that aren't in use.
+#[test]
+fn every_single_limit_of_three_bytes() {
+    let mut draw = Draw::new(11);
+    let mut seen = [0; 10];
+    for number in 0..1u32 << 24 {
+        let [_, kind, x, k] = number.to_be_bytes();
+        seen[agree(&mut draw, 1, [Limit { kind, x, k }; 8], 9)] += 1;
+    }
+    // The table of kinds allows 3 times 90 limits with a k, and 12 without.
+    assert_eq!(seen[0], 282);
+    assert_eq!(seen.iter().sum::<usize>(), 1 << 24);
+}
+
+/// Any count, also one that no set has; any limits, those that aren't in use too; any buffer.
+#[test]
+fn any_set_any_buffer() {
+    let mut draw = Draw::new(12);
+    let mut seen = [0; 10];
+    for _ in 0..cases(500_000) {
+        let mut places = [NONE; 8];
+        for place in &mut places {
+            *place = draw.limit();
+            if draw.one_in(20) {
+                *place = Limit { kind: draw.below(6) as u8, x: draw.byte(), k: draw.below(15) as u8 };
+            }
+        }
+        let count = draw.of(&[0, 1, 2, 3, 4, 5, 6, 7, 8, 9, 255, 256, 1 << 32, u64::MAX]);
+        let needed = 6 + 3 * count.min(9) as usize;
+        let room = draw.of(&[0, 1, 6, needed - 1, needed, needed, needed + 1, 40]);
+        seen[agree(&mut draw, count, places, room)] += 1;
+    }
+    assert!([0, 3, 5, 6, 7, 9].iter().all(|&number| seen[number] > 1000), "{seen:?}");
+}
