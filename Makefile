@@ -4,15 +4,20 @@ ARCHIVE = target/staticlib/libfloelinnet.a
 SHELL = /bin/bash
 .SHELLFLAGS = -euo pipefail -c
 
-# A command of rt whose lines go to a file below target/; where it fails, its last lines are shown and the file is named.
-quietly = mkdir -p target; $(1) > target/$(2).log 2>&1 \
-	|| { tail -n 20 target/$(2).log; echo '`$(1)` failed: the whole log is target/$(2).log'; exit 1; } >&2
+# A command of rt, the file below target/ to which its lines go, and what it makes. Where that isn't there yet, one line
+# says what is going on; where the command fails, its last lines are shown and the file is named.
+define quietly
+mkdir -p target
+test -e $(3) || echo '`$(1)`, some minutes from nothing, log in $(2)' >&2
+$(1) > $(2) 2>&1 || { tail -n 20 $(2); echo '`$(1)` failed: the whole log is $(2)'; exit 1; } >&2
+endef
 
-# The table of a limits file: make table LIMITS=sets/any-hit-1-of-2.limits
+# The table of a limits file.
 .PHONY: table
 table:
-	@test -r '$(LIMITS)' || { echo 'make table LIMITS=FILE: there is no such file' >&2; exit 1; }
-	@$(call quietly,rt check print_table,print_table)
+	@test -n '$(LIMITS)' || { echo 'which limits? As in: make table LIMITS=sets/any-hit-1-of-2.limits' >&2; exit 1; }
+	@test -f '$(LIMITS)' || { echo 'there is no file $(LIMITS)' >&2; exit 1; }
+	@$(call quietly,rt check print_table,target/print_table.log,target/bin/print_table)
 	@target/bin/print_table < '$(LIMITS)'
 
 # Everything that must pass. rt ci comes first, since it starts from nothing and removes target/: it proves every crate,
@@ -34,6 +39,7 @@ dist: $(ARCHIVE)
 	@install -D -m 644 $(ARCHIVE) dist/lib/libfloelinnet.a
 	@install -D -m 644 include/floelinnet.h dist/include/floelinnet.h
 	@install -D -m 644 floelinnet.pc dist/lib/pkgconfig/floelinnet.pc
+	@echo 'dist/ has the archive, the header and a file for pkg-config'
 
 # README's two ways in: the example in C, and the first command, which prints its three lines and no other.
 .PHONY: dist-links table-prints
@@ -50,4 +56,4 @@ bench: $(ARCHIVE)
 
 .PHONY: $(ARCHIVE)
 $(ARCHIVE):
-	@$(call quietly,rt staticlib floelinnet,staticlib)
+	@$(call quietly,rt staticlib floelinnet,target/staticlib.log,$(ARCHIVE))

@@ -6,21 +6,26 @@
  * dist/. With PKG_CONFIG_PATH set to dist/lib/pkgconfig:
  *
  *     cc prog.c $(pkg-config --cflags --libs floelinnet)
+ *     c++ prog.cpp $(pkg-config --cflags --libs floelinnet)
  *
- * The way to guard a job: name its limits in a floe_set, floe_write_set, floe_build, floe_guard_start; then before each
- * job floe_guard_ask, and after it floe_guard_tell. Jobs with the same limits share a table and may stand in a row; a
- * job with other limits has a table of its own. examples/recorder.c is a whole program, docs/COOKBOOK.md has more.
+ * The way to guard a job that runs again and again: name its limits in a floe_set; floe_write_set writes the bytes of
+ * that set, which is what functions with a `set` want; then floe_build and floe_guard_start; and each time before the
+ * job runs floe_guard_ask, and after it floe_guard_tell. Jobs with the same limits share a table and may stand in a
+ * row; a job with other limits has a table of its own. examples/recorder.c is a whole program, docs/COOKBOOK.md has
+ * more.
  *
  * Lengths named ..._len count elements: bytes, and for `work` entries of 16 bits. The `count` of a row counts guards.
  *
  * Answers. Each begins with `refused`, which is 0 where the call was not refused, and else a number of enum
  * floe_refusal; and with `at`, which says more for some numbers and is 0 for all others, and where nothing is refused.
- * A refused call has no good news in its other fields: `kept` and `covers` are 0, `answer` is FLOE_REFUSED, lengths and
- * counts are 0. It writes to nothing that was lent to it, the row included, but for FLOE_REFUSED_ROOM (see floe_build),
- * and gives back the guard that was handed in as it was.
+ * A refused call doesn't say that all is well: `kept` and `covers` are 0, `answer` is FLOE_REFUSED, lengths and counts
+ * are 0. It writes to nothing that was lent to it, the row included, but for FLOE_REFUSED_ROOM (see floe_build), and
+ * gives back the guard that was handed in as it was: after a start and a tell look at `refused`, since the guard alone
+ * doesn't show that it wasn't started, or wasn't told.
  *
  * Pointers. Every pointer is valid for its length: to read, and through a pointer that isn't const also to write.
- * A null pointer is never allowed; a length of 0 wants a pointer that isn't null, and nothing is read through it.
+ * A null pointer is never allowed; a length of 0 wants a pointer that isn't null (in C++ the data() of an empty vector
+ * may be), and nothing is read through it.
  * `work` is aligned as a uint16_t, `row` as a floe_guard. What is written in a call (`bytes` of floe_write_set, `work`
  * and `table` of floe_build, `row` of floe_row_start and floe_row_tell) overlaps nothing else that is handed over in
  * that call.
@@ -67,7 +72,8 @@ enum floe_kind {
     FLOE_ROW_MISS = 3  /* at most x misses in a row; x is 0 to 11, k is 0 */
 };
 
-/* What a guard answers before a job. */
+/* What a guard answers before a job. Test for the first two and take everything else as an alarm, in a switch by its
+ * default: a test for FLOE_PANIC alone takes FLOE_LOST and FLOE_REFUSED for normal. */
 enum floe_answer {
     FLOE_NORMAL = 0, /* a miss is still allowed */
     FLOE_PANIC = 1,  /* the outcomes told so far are kept, and with one more miss they aren't */
@@ -119,12 +125,14 @@ typedef struct { uint8_t kind, x, k; } floe_limit;
  *
  *     floe_set set = {2, {{FLOE_ANY_MISS, 2, 8}, {FLOE_ROW_MISS, 1, 0}}};
  *
- * The places from count on aren't looked at; a set that was read has zeros there. */
+ * count says how many of the places are limits: those from count on aren't looked at, whatever they hold, and a set
+ * that was read has zeros there. */
 typedef struct { uint64_t count; floe_limit limits[FLOE_MOST_LIMITS]; } floe_set;
 
 /* A guard: where one job stands on its table, and whether its outcomes are lost. It belongs to the table that it was
- * started on; to copy it is to copy the job's standing. The byte of lost is 0 or 1, as in every C bool: a guard whose
- * bytes come from elsewhere must be tested for that by the caller. */
+ * started on, and no call can see which that was: on another table it answers as if it had been started there, and is
+ * refused only where that table has no such state. To copy it is to copy the job's standing. The byte of lost is 0 or
+ * 1, as in every C bool: a guard that nobody wrote, or whose bytes come from elsewhere, is the caller's to rule out. */
 typedef struct { uint16_t state; bool lost; } floe_guard;
 
 typedef struct { uint64_t refused, at; floe_set set; } floe_set_read;
@@ -213,7 +221,9 @@ FLOE_NODISCARD floe_checked floe_check_table(const uint8_t *table, size_t table_
 /*
  * Starts a guard on a table, which is checked as by floe_check_table.
  *
- * guard: a guard in state 0 that isn't lost, also on a refusal. Refuses by 10 to 12.
+ * guard: a guard in state 0 that isn't lost, also on a refusal.
+ *
+ * Refuses by 10 to 12: look at refused before the guard is used, since asking and telling don't check the whole table.
  */
 FLOE_NODISCARD floe_started floe_guard_start(const uint8_t *table, size_t table_len);
 
@@ -222,8 +232,8 @@ FLOE_NODISCARD floe_started floe_guard_start(const uint8_t *table, size_t table_
  *
  * answer: one of enum floe_answer. guard: the guard as it was handed in; asking changes nothing.
  *
- * Refuses by 10 to 12, for a lost guard too. Of the table only its head and the entry of the guard's state are tested,
- * in time that doesn't grow with its length.
+ * Refuses by 10 to 12, whether or not the guard is lost. Of the table only its head and the entry of the guard's state
+ * are tested, in time that doesn't grow with its length.
  */
 FLOE_NODISCARD floe_asked floe_guard_ask(floe_guard guard, const uint8_t *table, size_t table_len);
 
@@ -234,8 +244,8 @@ FLOE_NODISCARD floe_asked floe_guard_ask(floe_guard guard, const uint8_t *table,
  * caller starts a new guard: no outcome brings it back. On a table that floe_build made of a set, eleven hits in a row
  * bring a guard that isn't lost back to what floe_guard_start gave.
  *
- * Refuses by 10 to 12, tested as by floe_guard_ask, then by 13 (at is 0), for a lost guard too. guard is the one handed
- * in then, and no outcome was told.
+ * Refuses by 10 to 12, tested as by floe_guard_ask, then by 13 (at is 0), whether or not the guard is lost. guard is
+ * the one handed in then, and no outcome was told: look at refused.
  */
 FLOE_NODISCARD floe_told floe_guard_tell(floe_guard guard, const uint8_t *table, size_t table_len, uint8_t outcome);
 
@@ -245,9 +255,10 @@ FLOE_NODISCARD floe_told floe_guard_tell(floe_guard guard, const uint8_t *table,
  *
  *     floe_guard row[FLOE_MOST_GUARDS] = {{0, false}};
  *
- * Nobody has started these guards, but they can be asked and told; starting one checks the whole table first. A call
- * concerns the guard of one job, numbered from 0: the guards of the other jobs are never written, and the answer
- * doesn't depend on them.
+ * A row has to be written so, or copied from one, before any call, floe_row_start too, which keeps the old guard where
+ * it refuses. Then start each of its jobs, which checks the whole table; without that a guard of a new row can be asked
+ * and told as well. A call concerns the guard of one job, numbered from 0: the guards of the other jobs are never
+ * written, and the answer doesn't depend on them.
  */
 
 /*
@@ -264,7 +275,7 @@ FLOE_NODISCARD floe_done floe_row_start(floe_guard *row, size_t count, size_t jo
  *
  * answer: one of enum floe_answer. The row isn't written.
  *
- * Refuses by 14, then by 10 to 12, for a lost guard too.
+ * Refuses by 14, then by 10 to 12, whether or not the guard is lost.
  */
 FLOE_NODISCARD floe_row_asked floe_row_ask(const floe_guard *row, size_t count, size_t job,
                                            const uint8_t *table, size_t table_len);
@@ -273,8 +284,8 @@ FLOE_NODISCARD floe_row_asked floe_row_ask(const floe_guard *row, size_t count, 
  * Tells the guard of one job, after that job, its outcome, as floe_guard_tell does: row[job] becomes the guard to go on
  * with.
  *
- * Refuses by 14, then by 10 to 12, then by 13 (at is 0), for a lost guard too. The row is then as it was, and no
- * outcome was told.
+ * Refuses by 14, then by 10 to 12, then by 13 (at is 0), whether or not the guard is lost. The row is then as it was,
+ * and no outcome was told: look at refused.
  */
 FLOE_NODISCARD floe_done floe_row_tell(floe_guard *row, size_t count, size_t job,
                                        const uint8_t *table, size_t table_len, uint8_t outcome);

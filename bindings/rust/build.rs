@@ -15,7 +15,7 @@ fn main() {
     let folders: Vec<PathBuf> = folders.into_iter().map(|folder| here.join(folder)).collect();
     let Some(folder) = folders.iter().find(|folder| has_archive(folder)) else {
         eprintln!(
-            "no libfloelinnet.a in {folders:?}: run `rt staticlib floelinnet` in the root of the repository, \
+            "no libfloelinnet.a in {folders:?}: run `make dist` in the root of the repository, \
              or name the folder that has it in FLOELINNET_ARCHIVE_DIR"
         );
         exit(1);

@@ -1,4 +1,4 @@
-//! A plain reader of a set.
+//! A plain reader and a plain writer of sets.
 
 #[derive(Clone, Copy, Default)]
 pub struct Limit {
@@ -44,17 +44,43 @@ pub fn read(bytes: &[u8]) -> Result<Set, Refusal> {
     let mut limits = [Limit::default(); 8];
     for (number, triple) in bytes[6..].chunks_exact(3).enumerate() {
         let limit = Limit { kind: triple[0], x: triple[1], k: triple[2] };
-        let (row_miss, most) = (limit.kind == 3, if limit.kind == 3 { 11 } else { limit.k });
-        if limit.kind > 3 {
-            return Err((5, number));
-        }
-        if (row_miss && limit.k != 0) || (!row_miss && !(1..=12).contains(&limit.k)) {
-            return Err((6, number));
-        }
-        if limit.x > most {
-            return Err((7, number));
-        }
+        test(&limit, number)?;
         limits[number] = limit;
     }
     Ok(Set { count, limits })
+}
+
+#[inline(never)]
+pub fn write(set: &Set, bytes: &mut [u8]) -> Result<usize, Refusal> {
+    if set.count == 0 || set.count > 8 {
+        return Err((3, 0));
+    }
+    for (number, limit) in set.limits().iter().enumerate() {
+        test(limit, number)?;
+    }
+    let length = 6 + 3 * set.count;
+    if bytes.len() < length {
+        return Err((9, length));
+    }
+    bytes[..4].copy_from_slice(&(length as u32 - 4).to_be_bytes());
+    bytes[4] = 1;
+    bytes[5] = set.count as u8;
+    for (triple, limit) in bytes[6..].chunks_exact_mut(3).zip(set.limits()) {
+        triple.copy_from_slice(&[limit.kind, limit.x, limit.k]);
+    }
+    Ok(length)
+}
+
+fn test(limit: &Limit, number: usize) -> Result<(), Refusal> {
+    let (row_miss, most) = (limit.kind == 3, if limit.kind == 3 { 11 } else { limit.k });
+    if limit.kind > 3 {
+        return Err((5, number));
+    }
+    if (row_miss && limit.k != 0) || (!row_miss && !(1..=12).contains(&limit.k)) {
+        return Err((6, number));
+    }
+    if limit.x > most {
+        return Err((7, number));
+    }
+    Ok(())
 }

@@ -29,7 +29,7 @@ impl Answer {
 
 impl fmt::Display for Answer {
     fn fmt(&self, f: &mut fmt::Formatter<'_>) -> fmt::Result {
-        f.write_str(match self {
+        f.pad(match self {
             Answer::Normal => "normal",
             Answer::Panic => "panic",
             Answer::Lost => "lost",
@@ -38,7 +38,8 @@ impl fmt::Display for Answer {
 }
 
 impl Guard {
-    /// Starts a guard on a table, all of which is checked.
+    /// Starts a guard on a table, all of which is checked. It takes the table's own bytes, not a longer buffer that holds
+    /// them.
     ///
     /// Refuses by 10 to 12. The guard that the library gives beside a refusal, one with nothing told, isn't handed on;
     /// [`Guard::default`] is such a guard.
@@ -64,7 +65,8 @@ impl Guard {
 
     /// Asks, before a job, whether a miss is still allowed.
     ///
-    /// Refuses by 10 to 12, a lost guard too. Of the table only its head and the entry of the guard's state are tested.
+    /// Refuses by 10 to 12, whether or not the guard is lost. Of the table only its head and the entry of the guard's
+    /// state are tested.
     pub fn ask(self, table: &[u8]) -> Result<Answer, Refused> {
         let asked = raw::guard_ask(self, table);
         accepted(asked.refused, asked.at)?;

@@ -2,11 +2,11 @@
 //!
 //! Each function is one call of the proved library and a translation of its answer: slices go in, values come out, and
 //! what the library refuses is an [`Err`] with the number of the refusal. The crate tests nothing and rules nothing by
-//! itself. It keeps no state, allocates nothing and needs no standard library.
+//! itself. It keeps no state, allocates nothing and needs no standard library; the archive is for x86-64 Linux.
 //!
 //! An outcome is a byte, [`HIT`] or [`MISS`]; a pattern is a slice of them, oldest first. Sets of limits and tables are
 //! slices too, with the bytes that [`read_set`] and [`build`] describe; a [`LimitSet`] is made of [`Limit`]s and has such
-//! bytes.
+//! bytes. Where a page says "refuses by 10 to 12", these are the numbers of [`Refused`].
 //!
 //! | to | call |
 //! |---|---|

@@ -28,20 +28,35 @@ pub struct Set {
     pub limits: [Limit; MOST_LIMITS],
 }
 
-/// Where one job stands on its table. It belongs to the table that it was started on; to copy it is to copy the job's
-/// standing. The default is a guard with nothing told, which is what a new row holds.
+/// Where one job stands on its table: start it, ask it before each job, tell it after each.
 ///
-/// A guard that is told something is the one that comes back. To drop it is to tell nothing, and the compiler says so:
+/// It belongs to the table that it was started on. No call can see which one that was: on another table it answers as
+/// if it had been started there, and is refused only where that table has no such state. To copy a guard is to copy the
+/// job's standing. The default is a guard with nothing told, which is what a new row holds; nobody has checked a table
+/// for it.
+///
+/// The guard to go on with is the one that comes back:
+///
+/// ```
+/// # use floelinnet::{Guard, Refused, MISS};
+/// # let table = [0, 0, 0, 11, 1, 0, 2, 0, 1, 0, 0, 0xFF, 0xFF, 0, 0];
+/// let mut guard = Guard::start(&table)?;
+/// guard = guard.tell(&table, MISS)?;
+/// # assert_eq!(guard.state, 1);
+/// # Ok::<(), Refused>(())
+/// ```
+///
+/// To drop it is to tell nothing. The compiler warns of that, and refuses it where such a warning is denied:
 ///
 /// ```compile_fail
-/// #![deny(unused_must_use)]
+/// # #![deny(unused_must_use)]
 /// # use floelinnet::{Guard, Refused, MISS};
 /// # let table = [0, 0, 0, 11, 1, 0, 2, 0, 1, 0, 0, 0xFF, 0xFF, 0, 0];
 /// let guard = Guard::start(&table)?;
 /// guard.tell(&table, MISS)?;
 /// # Ok::<(), Refused>(())
 /// ```
-#[must_use = "a guard that was told something is this one, and the one before it wasn't"]
+#[must_use = "the guard to go on with is the one that comes back: `guard = guard.tell(..)?`"]
 #[repr(C)]
 #[derive(Clone, Copy, Default, PartialEq, Eq, Hash, Debug)]
 pub struct Guard {

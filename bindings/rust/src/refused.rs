@@ -17,12 +17,12 @@ pub enum Refused {
         /// The number of the limit.
         limit: usize,
     },
-    /// 6: the k of this limit, counted from 0, is outside its range.
+    /// 6: the k of this limit, counted from 0, isn't 1 to 12, or for RowMiss isn't 0.
     LimitK {
         /// The number of the limit.
         limit: usize,
     },
-    /// 7: the x of this limit, counted from 0, is outside its range.
+    /// 7: the x of this limit, counted from 0, isn't 0 to k, or for RowMiss isn't 0 to 11.
     LimitX {
         /// The number of the limit.
         limit: usize,
@@ -34,7 +34,8 @@ pub enum Refused {
         /// The length in bytes that is needed.
         needed: usize,
     },
-    /// 10: the table has fewer than 7 bytes, or its length field isn't the count of bytes after it.
+    /// 10: the table has fewer than 7 bytes, or its length field isn't the count of bytes after it. A buffer that is
+    /// longer than the table in it is refused so: pass `&table[..length]`.
     TableLength,
     /// 11: the table's version isn't 1.
     TableVersion,
@@ -95,8 +96,8 @@ impl fmt::Display for Refused {
             Refused::LimitCount => f.write_str("the set's count of limits is 0 or above 8"),
             Refused::LimitsLength => f.write_str("the set's length field isn't 2 + 3 times its count of limits"),
             Refused::LimitKind { limit } => write!(f, "the kind of limit {limit} is above 3"),
-            Refused::LimitK { limit } => write!(f, "the k of limit {limit} is outside its range"),
-            Refused::LimitX { limit } => write!(f, "the x of limit {limit} is outside its range"),
+            Refused::LimitK { limit } => write!(f, "the k of limit {limit} isn't 1 to 12 (RowMiss: 0)"),
+            Refused::LimitX { limit } => write!(f, "the x of limit {limit} isn't 0 to its k (RowMiss: 0 to 11)"),
             Refused::WorkLength => f.write_str("the work area has fewer than 8192 entries"),
             Refused::Room { needed } => write!(f, "the buffer is shorter than the {needed} bytes to be written"),
             Refused::TableLength => {

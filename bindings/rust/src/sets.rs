@@ -3,33 +3,33 @@ use core::fmt;
 use crate::refused::accepted;
 use crate::{no_such, raw, Refused, LONGEST_SET};
 
-/// One limit. Each says what has to hold in every window of its jobs.
+/// One limit. Each says what has to hold in every window of k jobs, 1 to 12 of them; [`LimitSet::new`] judges the numbers.
 #[derive(Clone, Copy, PartialEq, Eq, Hash, Debug)]
 pub enum Limit {
     /// At least x hits in k jobs.
     AnyHit {
-        /// How many hits.
+        /// How many hits, 0 to k.
         x: u8,
-        /// Of how many jobs.
+        /// Of how many jobs, 1 to 12.
         k: u8,
     },
     /// Some x hits in a row in k jobs.
     RowHit {
-        /// How many hits.
+        /// How many hits, 0 to k.
         x: u8,
-        /// Of how many jobs.
+        /// Of how many jobs, 1 to 12.
         k: u8,
     },
     /// At most x misses in k jobs.
     AnyMiss {
-        /// How many misses.
+        /// How many misses, 0 to k.
         x: u8,
-        /// Of how many jobs.
+        /// Of how many jobs, 1 to 12.
         k: u8,
     },
     /// At most x misses in a row.
     RowMiss {
-        /// How many misses.
+        /// How many misses, 0 to 11.
         x: u8,
     },
 }
@@ -124,7 +124,7 @@ impl fmt::Debug for LimitSet {
 }
 
 /// Reads the bytes of a set: four bytes, big-endian, that count the bytes after them; the version, 1; the count of
-/// limits; and for each limit its kind, x and k.
+/// limits; and for each limit its kind (0 AnyHit, 1 RowHit, 2 AnyMiss, 3 RowMiss), x and k (0 for RowMiss).
 ///
 /// Refuses by 1 to 7.
 ///

@@ -4,6 +4,9 @@ use crate::{raw, Refused};
 /// Builds the table of a set into `table` and gives its length in bytes. The table is the smallest machine that walks
 /// exactly the patterns that the set keeps; two sets that keep the same patterns give the same bytes.
 ///
+/// The bytes of a table: four, big-endian, that count the bytes after them; the version, 1; two for the count of states
+/// n; and for each state two for the next state after a miss (FF FF: a miss isn't allowed) and two for that after a hit.
+///
 /// `work` is lent for the call, whatever it holds. Buffers of [`WORK_ENTRIES`](crate::WORK_ENTRIES) and
 /// [`LONGEST_TABLE`](crate::LONGEST_TABLE) serve every set.
 ///

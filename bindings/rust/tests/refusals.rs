@@ -27,8 +27,8 @@ fn of_sets() {
     says(refused(&with(SET, 5, 2)), 4, 0, "the set's length field isn't 2 + 3 times its count of limits");
     let three = |kind, x, k| [0, 0, 0, 11, 1, 3, 0, 1, 2, 3, 11, 0, kind, x, k];
     says(refused(&three(4, 1, 2)), 5, 2, "the kind of limit 2 is above 3");
-    says(refused(&three(3, 1, 2)), 6, 2, "the k of limit 2 is outside its range");
-    says(refused(&three(0, 3, 2)), 7, 2, "the x of limit 2 is outside its range");
+    says(refused(&three(3, 1, 2)), 6, 2, "the k of limit 2 isn't 1 to 12 (RowMiss: 0)");
+    says(refused(&three(0, 3, 2)), 7, 2, "the x of limit 2 isn't 0 to its k (RowMiss: 0 to 11)");
 }
 
 #[test]
@@ -38,9 +38,9 @@ fn of_sets_made_of_limits() {
     for limits in [&[][..], &[one_of_two; MOST_LIMITS + 1]] {
         says(refused(limits), 3, 0, "the set's count of limits is 0 or above 8");
     }
-    says(refused(&[one_of_two, Limit::RowHit { x: 1, k: 13 }]), 6, 1, "the k of limit 1 is outside its range");
-    says(refused(&[one_of_two, Limit::AnyMiss { x: 3, k: 2 }]), 7, 1, "the x of limit 1 is outside its range");
-    says(refused(&[Limit::RowMiss { x: 12 }]), 7, 0, "the x of limit 0 is outside its range");
+    says(refused(&[one_of_two, Limit::RowHit { x: 1, k: 13 }]), 6, 1, "the k of limit 1 isn't 1 to 12 (RowMiss: 0)");
+    says(refused(&[one_of_two, Limit::AnyMiss { x: 3, k: 2 }]), 7, 1, "the x of limit 1 isn't 0 to its k (RowMiss: 0 to 11)");
+    says(refused(&[Limit::RowMiss { x: 12 }]), 7, 0, "the x of limit 0 isn't 0 to its k (RowMiss: 0 to 11)");
 }
 
 #[test]
@@ -112,10 +112,10 @@ fn of_comparisons() {
     let bad = with(SET, 8, 13);
     let first = compare(&bad, &[]).unwrap_err();
     assert_eq!(first, RefusedSet::First(Refused::LimitK { limit: 0 }));
-    assert_eq!(first.to_string(), "first set: refusal 6: the k of limit 0 is outside its range");
+    assert_eq!(first.to_string(), "first set: refusal 6: the k of limit 0 isn't 1 to 12 (RowMiss: 0)");
     let second = compare(&SET, &bad).unwrap_err();
     assert_eq!(second, RefusedSet::Second(Refused::LimitK { limit: 0 }));
-    assert_eq!(second.to_string(), "second set: refusal 6: the k of limit 0 is outside its range");
+    assert_eq!(second.to_string(), "second set: refusal 6: the k of limit 0 isn't 1 to 12 (RowMiss: 0)");
 }
 
 /// `?` turns both kinds into any error.
