@@ -19,9 +19,9 @@
  * Answers. Each begins with `refused`, which is 0 where the call was not refused, and else a number of enum
  * floe_refusal; and with `at`, which says more for some numbers and is 0 for all others, and where nothing is refused.
  * A refused call doesn't say that all is well: `kept` and `covers` are 0, `answer` is FLOE_REFUSED, lengths and counts
- * are 0. It writes to nothing that was lent to it, the row included, but for FLOE_REFUSED_ROOM (see floe_build), and
- * gives back the guard that was handed in as it was: after a start and a tell look at `refused`, since the guard alone
- * doesn't show that it wasn't started, or wasn't told.
+ * are 0. It writes to nothing that was lent to it, the row included, but for FLOE_REFUSED_ROOM (see floe_build), and a
+ * guard that was handed in comes back as it was. So look at `refused` after a start and after a tell: the guard alone
+ * doesn't show that the table wasn't accepted, or the outcome not told.
  *
  * Pointers. Every pointer is valid for its length: to read, and through a pointer that isn't const also to write.
  * A null pointer is never allowed; a length of 0 wants a pointer that isn't null (in C++ the data() of an empty vector
@@ -90,9 +90,9 @@ enum floe_refusal {
     FLOE_REFUSED_SET_VERSION = 2,    /* the set's version isn't 1 */
     FLOE_REFUSED_LIMIT_COUNT = 3,    /* the set's count of limits is 0 or above 8 */
     FLOE_REFUSED_LIMITS_LENGTH = 4,  /* the set's length field isn't 2 + 3 * count */
-    FLOE_REFUSED_LIMIT_KIND = 5,     /* a limit's kind is above 3; at: the number of the limit, from 0 */
-    FLOE_REFUSED_LIMIT_K = 6,        /* a limit's k is outside its range; at: the number of the limit, from 0 */
-    FLOE_REFUSED_LIMIT_X = 7,        /* a limit's x is outside its range; at: the number of the limit, from 0 */
+    FLOE_REFUSED_LIMIT_KIND = 5,     /* a limit's kind is above 3; at: its number, from 0 */
+    FLOE_REFUSED_LIMIT_K = 6,        /* a limit's k isn't one that its kind takes; at: its number, from 0 */
+    FLOE_REFUSED_LIMIT_X = 7,        /* a limit's x isn't one that its kind takes; at: its number, from 0 */
     FLOE_REFUSED_WORK_LENGTH = 8,    /* the work area has fewer than 8192 entries */
     FLOE_REFUSED_ROOM = 9,           /* the buffer is too short for what must be written; at: the bytes needed */
     FLOE_REFUSED_TABLE_LENGTH = 10,  /* table: under 7 bytes, or its length field isn't the count of bytes after it */

@@ -1,5 +1,5 @@
 //! The archive: the records that bindings/rust declares, and its plain calls, a module for each part.
-//! tests/layout.rs holds the places of the records' fields fixed.
+//! tests/c_programs/layout.rs holds the places of the records' fields fixed.
 
 pub use floelinnet::raw::{
     Asked, Built, Checked, Comparison, Done, Guard, Limit, RowAsked, Set, SetRead, Started, Told, Verdict, Written,

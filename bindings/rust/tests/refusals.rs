@@ -38,8 +38,9 @@ fn of_sets_made_of_limits() {
     for limits in [&[][..], &[one_of_two; MOST_LIMITS + 1]] {
         says(refused(limits), 3, 0, "the set's count of limits is 0 or above 8");
     }
-    says(refused(&[one_of_two, Limit::RowHit { x: 1, k: 13 }]), 6, 1, "the k of limit 1 isn't 1 to 12 (RowMiss: 0)");
-    says(refused(&[one_of_two, Limit::AnyMiss { x: 3, k: 2 }]), 7, 1, "the x of limit 1 isn't 0 to its k (RowMiss: 0 to 11)");
+    let (k_too_long, x_above_k) = (Limit::RowHit { x: 1, k: 13 }, Limit::AnyMiss { x: 3, k: 2 });
+    says(refused(&[one_of_two, k_too_long]), 6, 1, "the k of limit 1 isn't 1 to 12 (RowMiss: 0)");
+    says(refused(&[one_of_two, x_above_k]), 7, 1, "the x of limit 1 isn't 0 to its k (RowMiss: 0 to 11)");
     says(refused(&[Limit::RowMiss { x: 12 }]), 7, 0, "the x of limit 0 isn't 0 to its k (RowMiss: 0 to 11)");
 }
 

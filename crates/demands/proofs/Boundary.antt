@@ -1,9 +1,11 @@
 -- The demands at the C boundary. Demand 1 in the fields `refused` and `at`: they are 0 and 0 exactly where every test is passed, and else the number of the first row that holds and what is returned beside it. Demand 2 in the fields that a caller goes by: `kept` is 1 exactly where the set is accepted, the outcomes are 0 and 1 and the set keeps them, `covers` 1 exactly where both are accepted and the first covers the second, `answer` 0, 1 and 2 exactly at normal, panic and lost, and 3 exactly on a refusal. What was lent is then as the promise behind says. Assumes nothing.
 use mathlib.Core.Path.{_≡_, _∙_, ap₂}
 use mathlib.Core.Logic.{_↔_, _⊎_, ⊎-elim, Iff·trans}
+use mathlib.Core.Bool.{Bool}
 use mathlib.Core.List.{List}
 use Prim.Native.Nat.{ℕ, _≤_}
 use native.Mathlib.Omega.{arith}
+use lib.ListN.{length}
 use Rattle.layout.specs.Refusal.{passed, first}
 use Rattle.layout.proofs.Rows.{and-then, from-to, both-passed as all-passed, first-append}
 use Rattle.patterns.specs.Outcome.{outcomes, outcomeRows}
@@ -13,6 +15,7 @@ use Rattle.machines.specs.Canonical.{Canonical}
 use Rattle.meaning.specs.Longest.{longest}
 use Rattle.meaning.specs.declared.LimitSet.{LimitSet}
 use Rattle.meaning.specs.Sets.{KeptBy, LostAt}
+use Rattle.meaning.specs.Covers.{FirstBetween}
 use Rattle.meaning.specs.Covers as meant
 use Rattle.sets.specs.Bytes.{setOf}
 use Rattle.sets.specs.Rows.{setRows}
@@ -20,7 +23,7 @@ use Rattle.sets.specs.Read.{ReadAs}
 use Rattle.sets.specs.Write.{writeRows, WrittenAs}
 use Rattle.sets.proofs.Numbers.{set-numbers}
 use Rattle.verdict.specs.Judge.{judgeRows, JudgedAs}
-use Rattle.compare.specs.Compare.{BothTested, both-passed, one-refused, in-turn, ComparedAs}
+use Rattle.compare.specs.Compare.{packed, BothTested, both-passed, one-refused, in-turn, ComparedAs}
 use Rattle.table.specs.Bytes.{sizeOf}
 use Rattle.table.specs.Rows.{tableRows, lookRows}
 use Rattle.table.specs.Check.{CheckedAs}
@@ -51,9 +54,9 @@ use Rattle.demands.specs.Judging.{Keeps}
 use Rattle.demands.specs.Guarding.{ByKeptFlat}
 use Rattle.demands.proofs.Numbers.{WriteNumber, write-numbers, JudgeNumber, judge-numbers, table-numbers, look-numbers, tell-numbers, RowNumber, row-start-numbers, row-ask-numbers, row-tell-numbers}
 use Rattle.demands.proofs.Answers.{one-size}
-use Rattle.demands.proofs.FlatAnswers.{opens-refuses, set-opens, written-opens, verdict-opens, kept-flat, kept-or-not, lost-flat, compared-opens, compared-accepted, covers-flat, built-opens, checked-opens, start-opens, ask-opens, tell-opens, answers-flat, refused-flat}
+use Rattle.demands.proofs.FlatAnswers.{opens-refuses, set-opens, written-opens, verdict-opens, kept-flat, kept-or-not, lost-flat, compared-opens, compared-accepted, covers-flat, between-flat, built-opens, checked-opens, start-opens, ask-opens, tell-opens, answers-flat, refused-flat}
 use Rattle.demands.proofs.Demand1.{ask-refuses, row-ask-refuses}
-use Rattle.demands.proofs.Demand2.{verdict-kept, verdict-lost, comparison-covers, guard-answers, row-answers}
+use Rattle.demands.proofs.Demand2.{verdict-kept, verdict-lost, comparison-covers, comparison-between, guard-answers, row-answers}
 
 -- no row has number 0
 at-least : (low high n : ℕ) → 1 ≤ low → from-to low high n → 1 ≤ n
@@ -145,9 +148,16 @@ module _ (set pattern : List ℕ) (f : FloeVerdict) (flat : FlatAnswer (JudgedAs
   floe-judge-lost j i h = Iff·trans (rw (flat .2) (lost-flat (flat .0) j i h)) (verdict-lost set pattern (flat .0) (flat .1) j i)
 
 -- The comparison.
-pub floe-compare-covers : (a b : List ℕ) (f : FloeComparison) → FlatAnswer (ComparedAs longest a b) flatComparison f
-    → (f .covers ≡ 1) ↔ ((in-turn (first (setRows longest a)) (first (setRows longest b)) ≡ both-passed) × meant.Covers (setOf a) (setOf b))
-floe-compare-covers a b f flat = Iff·trans (covers-flat a b f flat) (comparison-covers a b (flat .0) (flat .1))
+module _ (a b : List ℕ) (f : FloeComparison) (flat : FlatAnswer (ComparedAs longest a b) flatComparison f) where
+  abbrev accepted : Type 0
+  accepted = in-turn (first (setRows longest a)) (first (setRows longest b)) ≡ both-passed
+
+  pub floe-compare-covers : (f .covers ≡ 1) ↔ (accepted × meant.Covers (setOf a) (setOf b))
+  floe-compare-covers = Iff·trans (covers-flat a b f flat) (comparison-covers a b (flat .0) (flat .1))
+
+  pub floe-compare-between : (q : List Bool)
+      → ((f .refused ≡ 0) × (f .covers ≡ 0) × (f .length ≡ packed q .length) × (f .pattern ≡ packed q .outcomes)) ↔ (accepted × FirstBetween (setOf a) (setOf b) q × (length q ≤ longest))
+  floe-compare-between q = Iff·trans (between-flat a b f flat (packed q)) (comparison-between a b (flat .0) (flat .1) q)
 
 -- A guard, alone and in a row: a refusal is answered by 3, whatever the table, and nothing else is.
 pub floe-guard-ask-refused : (b : List ℕ) (g : Guard) (f : FloeAsked) → FlatAnswer (AskedAs b g) flatAsked f → (f .answer ≡ 3) ↔ (f .refused ≡ 0 → ⊥)

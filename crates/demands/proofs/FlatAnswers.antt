@@ -1,5 +1,5 @@
 -- What the flat form of an answer says: its number and what else is returned are those of the answer, and a guard's answer is known from its fields. Assumes nothing.
-use mathlib.Core.Path.{_≡_, refl, sym, ap, _∙_}
+use mathlib.Core.Path.{_≡_, refl, sym, ap, ap₂, _∙_}
 use mathlib.Core.Logic.{_↔_, _⊎_, inl, inr, Iff·trans}
 use mathlib.Core.Bool.{Bool}
 use mathlib.Core.List.{List}
@@ -22,6 +22,7 @@ use Rattle.verdict.specs.declared.Judgement.{Judgement}
 use Rattle.verdict.specs.declared.Judgement.the-variants as judge
 use Rattle.verdict.specs.Judge.{says as judge-says}
 use Rattle.compare.specs.declared.CompareAnswer.{CompareAnswer}
+use Rattle.compare.specs.declared.Pattern.{Pattern}
 use Rattle.compare.specs.declared.CompareAnswer.the-variants as compare
 use Rattle.compare.specs.Compare.{BothTested, both-passed, one-refused, in-turn, says as compare-says, ComparedAs}
 use Rattle.table.specs.declared.TableAnswer.{TableAnswer}
@@ -174,3 +175,42 @@ module _ (a b : List ℕ) (f : FloeComparison) (flat : FlatAnswer (ComparedAs lo
       go compare.Covers = (λ z. refl, λ z. refl)
       go compare.Between = (λ z. absurd (omega arith), λ z. let y : _≡_ {A = ℕ} 0 1 = cc in absurd (omega arith))
       go (compare.Refused w n v) = (λ z. absurd (omega arith), λ z. let y : _≡_ {A = ℕ} 0 1 = cc in absurd (omega arith))
+
+  -- the pattern between is that of the record, where nothing is refused and the first set doesn't cover the second
+  pub between-flat : (p : Pattern) → ((f .refused ≡ 0) × (f .covers ≡ 0) × (f .length ≡ p .length) × (f .pattern ≡ p .outcomes)) ↔ ((x ≡ compare.Between) × (flat .0 .pattern ≡ p))
+  between-flat p = (λ (r, c, l, o). (to x said (sym at-refused ∙ r) (sym at-covers ∙ c), ap₂ made (sym at-length ∙ l) (sym at-pattern ∙ o)), λ (e, q). back e q)
+    where
+      made : ℕ → List ℕ → Pattern
+      made n os = record { length = n; outcomes = os }
+
+      at-refused : f .refused ≡ flatComparison (flat .0) .refused
+      at-refused = ap (λ z. z .refused) (flat .2)
+
+      at-covers : f .covers ≡ flatComparison (flat .0) .covers
+      at-covers = ap (λ z. z .covers) (flat .2)
+
+      same : (x : CompareAnswer) (p : Pattern) → (flatCompared x p .length ≡ p .length) × (flatCompared x p .pattern ≡ p .outcomes)
+      same compare.Covers p = (refl, refl)
+      same compare.Between p = (refl, refl)
+      same (compare.Refused w n v) p = (refl, refl)
+
+      at-length : f .length ≡ flat .0 .pattern .length
+      at-length = ap (λ z. z .length) (flat .2) ∙ same x (flat .0 .pattern) .0
+
+      at-pattern : f .pattern ≡ flat .0 .pattern .outcomes
+      at-pattern = ap (λ z. z .pattern) (flat .2) ∙ same x (flat .0 .pattern) .1
+
+      to : (x : CompareAnswer) → compare-says x ≡ tests → flatCompared x (flat .0 .pattern) .refused ≡ 0 → flatCompared x (flat .0 .pattern) .covers ≡ 0 → x ≡ compare.Between
+      to compare.Covers e r c = absurd (omega arith)
+      to compare.Between e r c = refl
+      to (compare.Refused w n v) e r c =
+          let (which, (low, high)) = one-of (setRows longest a) (setRows longest b) (set-numbers longest a) (set-numbers longest b) (sym e) in
+          absurd (omega arith)
+
+      back : x ≡ compare.Between → flat .0 .pattern ≡ p → (f .refused ≡ 0) × (f .covers ≡ 0) × (f .length ≡ p .length) × (f .pattern ≡ p .outcomes)
+      back e q = (
+        at-refused ∙ ap (λ z. flatCompared z (flat .0 .pattern) .refused) e,
+        at-covers ∙ ap (λ z. flatCompared z (flat .0 .pattern) .covers) e,
+        at-length ∙ ap (λ z. z .length) q,
+        at-pattern ∙ ap (λ z. z .outcomes) q,
+      )

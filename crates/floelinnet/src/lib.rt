@@ -202,7 +202,7 @@ pub extern "C" fn floe_compare(first: &[u8], second: &[u8]) -> FloeComparison
             refused: number as u64,
             at: at as u64,
             which: which as u64,
-            covers: 0,
+            covers: 0, // what wasn't compared isn't covered
             length,
             pattern,
         },

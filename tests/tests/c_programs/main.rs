@@ -4,7 +4,7 @@ mod cookbook;
 mod layout;
 mod programs;
 
-use std::fs::read_to_string;
+use std::fs::{read_to_string, write};
 use std::process::Command;
 
 use floelinnet_tests::floe::{builder, compare, guard, row, sets, table, verdict, Guard};
@@ -130,6 +130,21 @@ fn names() {
     let mut lines: Vec<String> = rust.iter().map(|(name, value)| format!("{name} {value}")).collect();
     lines.push("every name is as the library has it".into());
     prints(&file("tests/c/names.c"), &lines.iter().map(String::as_str).collect::<Vec<_>>());
+}
+
+/// The forms that the header shows for a set and for a row are taken by every compiler without a warning.
+#[test]
+fn shown_forms() {
+    let header = read_to_string(file("include/floelinnet.h")).unwrap();
+    let shown: String = header.lines().filter(|line| line.starts_with(" *     floe_")).map(|line| &line[2..]).collect();
+    assert_eq!(shown.matches(';').count(), 2, "{shown}");
+    let program = format!(
+        "#include <floelinnet.h>\n#include <stdio.h>\nint main(void) {{\n{shown}\n\
+         printf(\"%u %d\\n\", (unsigned)set.count, row[FLOE_MOST_GUARDS - 1].lost);\nreturn 0;\n}}\n"
+    );
+    let source = programs::made("shown_forms.c");
+    write(&source, program).unwrap();
+    prints(&source, &["2 0"]);
 }
 
 /// dropped.c calls every function and drops what it answers: every compiler says so, of each.
