@@ -54,7 +54,8 @@ use Rattle.demands.specs.Judging.{Keeps}
 use Rattle.demands.specs.Guarding.{ByKeptFlat}
 use Rattle.demands.proofs.Numbers.{WriteNumber, write-numbers, JudgeNumber, judge-numbers, table-numbers, look-numbers, tell-numbers, RowNumber, row-start-numbers, row-ask-numbers, row-tell-numbers}
 use Rattle.demands.proofs.Answers.{one-size}
-use Rattle.demands.proofs.FlatAnswers.{opens-refuses, set-opens, written-opens, verdict-opens, kept-flat, kept-or-not, lost-flat, compared-opens, compared-accepted, covers-flat, between-flat, built-opens, checked-opens, start-opens, ask-opens, tell-opens, answers-flat, refused-flat}
+use Rattle.demands.proofs.FlatAnswers.{opens-refuses, set-opens, written-opens, verdict-opens, kept-flat, kept-or-not, lost-flat, built-opens, checked-opens, start-opens, ask-opens, tell-opens, answers-flat, refused-flat}
+use Rattle.demands.proofs.FlatComparison.{compared-opens, compared-accepted, covers-flat, between-flat}
 use Rattle.demands.proofs.Demand1.{ask-refuses, row-ask-refuses}
 use Rattle.demands.proofs.Demand2.{verdict-kept, verdict-lost, comparison-covers, comparison-between, guard-answers, row-answers}
 

@@ -10,4 +10,5 @@ pub mod Numbers
 pub mod Answers
 pub mod Guarded
 pub mod FlatAnswers
+pub mod FlatComparison
 pub mod SmallMachines
