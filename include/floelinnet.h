@@ -35,7 +35,8 @@
  *
  * Memory. A set has at most 30 bytes, a table at most 8199, a guard 4; building wants a work area of 16384 bytes, which
  * is free again afterwards. No call uses more than 1024 bytes of stack, the record of its answer included, and the
- * archive has no memory of its own. Of the C library it calls memset alone.
+ * archive has no memory of its own. Of the C library it calls memset alone; where that is linked lazily, the dynamic
+ * linker takes some stack of its own in the first call (-z now does that before main).
  *
  * Threads. No state is kept between calls, so any thread may call any function at any time, as long as no other
  * thread writes to what a call reads, or uses what a call writes, while it runs. A row counts as a whole here: while

@@ -39,17 +39,18 @@ static size_t table_of(size_t n) {
     return 4 + after;
 }
 
-/* Each kind by what it means: the three patterns tell these limits apart. */
+/* Each kind by what it means: with these numbers the three patterns tell it from every other kind. */
 static void kinds(void) {
     const struct { uint8_t kind, x, k; bool two, three, apart; } kinds[] = {
-        {FLOE_ANY_HIT, 1, 3, true, false, true},
-        {FLOE_ROW_HIT, 2, 4, false, false, false},
+        {FLOE_ANY_HIT, 2, 5, true, true, true},
+        {FLOE_ROW_HIT, 2, 5, true, false, false},
         {FLOE_ANY_MISS, 3, 5, true, true, true},
         {FLOE_ROW_MISS, 1, 0, false, false, true},
     };
     const uint8_t misses[] = {FLOE_MISS, FLOE_MISS, FLOE_MISS}, apart[] = {FLOE_MISS, FLOE_HIT, FLOE_MISS};
     for (size_t i = 0; i < sizeof kinds / sizeof *kinds; i++) {
         const uint8_t set[] = {0, 0, 0, 5, 1, 1, kinds[i].kind, kinds[i].x, kinds[i].k};
+        HOLDS(floe_judge(set, sizeof set, misses, 2).refused == FLOE_ACCEPTED);
         HOLDS(floe_judge(set, sizeof set, misses, 2).kept == kinds[i].two);
         HOLDS(floe_judge(set, sizeof set, misses, 3).kept == kinds[i].three);
         HOLDS(floe_judge(set, sizeof set, apart, 3).kept == kinds[i].apart);

@@ -84,6 +84,7 @@ fn of_guards() {
     let hears = |guard: Guard| guard.ask(&TABLE).unwrap();
     assert_eq!([fresh, missed, met, lost].map(hears), [Answer::Normal, Answer::Panic, Answer::Panic, Answer::Lost]);
     assert_eq!([fresh, missed, lost].map(|guard| hears(guard).to_string()), ["normal", "panic", "lost"]);
+    assert_eq!(format!("{:8}|", hears(missed)), "panic   |");
 }
 
 #[test]

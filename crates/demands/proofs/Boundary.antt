@@ -156,9 +156,9 @@ module _ (a b : List ℕ) (f : FloeComparison) (flat : FlatAnswer (ComparedAs lo
   pub floe-compare-covers : (f .covers ≡ 1) ↔ (accepted × meant.Covers (setOf a) (setOf b))
   floe-compare-covers = Iff·trans (covers-flat a b f flat) (comparison-covers a b (flat .0) (flat .1))
 
-  pub floe-compare-between : (q : List Bool)
-      → ((f .refused ≡ 0) × (f .covers ≡ 0) × (f .length ≡ packed q .length) × (f .pattern ≡ packed q .outcomes)) ↔ (accepted × FirstBetween (setOf a) (setOf b) q × (length q ≤ longest))
-  floe-compare-between q = Iff·trans (between-flat a b f flat (packed q)) (comparison-between a b (flat .0) (flat .1) q)
+  pub floe-compare-between : (q : List Bool) → 1 ≤ length q
+      → ((f .length ≡ length q) × (f .pattern ≡ packed q .outcomes)) ↔ (accepted × FirstBetween (setOf a) (setOf b) q × (length q ≤ longest))
+  floe-compare-between q h = Iff·trans (between-flat a b f flat (packed q) h) (comparison-between a b (flat .0) (flat .1) q)
 
 -- A guard, alone and in a row: a refusal is answered by 3, whatever the table, and nothing else is.
 pub floe-guard-ask-refused : (b : List ℕ) (g : Guard) (f : FloeAsked) → FlatAnswer (AskedAs b g) flatAsked f → (f .answer ≡ 3) ↔ (f .refused ≡ 0 → ⊥)

@@ -6,12 +6,13 @@ use Prim.Native.Nat.{ℕ, _≤_}
 use native.Mathlib.Omega.{arith}
 use Rattle.layout.specs.Refusal.{first}
 use Rattle.meaning.specs.Longest.{longest}
+use Rattle.sets.specs.Bytes.{setOf}
 use Rattle.sets.specs.Rows.{setRows}
 use Rattle.sets.proofs.Numbers.{set-numbers}
 use Rattle.compare.specs.declared.CompareAnswer.{CompareAnswer}
 use Rattle.compare.specs.declared.CompareAnswer.the-variants as compare
 use Rattle.compare.specs.declared.Pattern.{Pattern}
-use Rattle.compare.specs.Compare.{BothTested, both-passed, one-refused, in-turn, says as compare-says, ComparedAs}
+use Rattle.compare.specs.Compare.{BothTested, both-passed, one-refused, in-turn, says as compare-says, Answers, ComparedAs}
 use Rattle.floelinnet.specs.declared.FloeComparison.{FloeComparison}
 use Rattle.floelinnet.specs.Flat.{FlatAnswer, flatCompared, flatComparison}
 use Rattle.demands.proofs.Answers.{one-of}
@@ -56,18 +57,15 @@ module _ (a b : List ℕ) (f : FloeComparison) (flat : FlatAnswer (ComparedAs lo
       known compare.Between z = absurd (omega arith)
       known (compare.Refused w n v) z = absurd (omega arith)
 
-  -- the pattern between is that of the record, where nothing is refused and the first set doesn't cover the second
-  pub between-flat : (p : Pattern) → ((f .refused ≡ 0) × (f .covers ≡ 0) × (f .length ≡ p .length) × (f .pattern ≡ p .outcomes)) ↔ ((x ≡ compare.Between) × (flat .0 .pattern ≡ p))
-  between-flat p = (λ (r, c, l, o). (to x said (sym at-refused ∙ r) (sym at-covers ∙ c), ap₂ made (sym at-length ∙ l) (sym at-pattern ∙ o)), λ (e, q). back e q)
+  -- the pattern between by its fields: beside every other answer stands the empty one
+  pub between-flat : (p : Pattern) → 1 ≤ p .length → ((f .length ≡ p .length) × (f .pattern ≡ p .outcomes)) ↔ ((x ≡ compare.Between) × (flat .0 .pattern ≡ p))
+  between-flat p h = (
+    λ (l, o). let q = ap₂ made (sym at-length ∙ l) (sym at-pattern ∙ o) in (known x (flat .1 .answer) (ap (λ z. z .length) q), q),
+    λ (e, q). (at-length ∙ ap (λ z. z .length) q, at-pattern ∙ ap (λ z. z .outcomes) q),
+  )
     where
       made : ℕ → List ℕ → Pattern
       made n os = record { length = n; outcomes = os }
-
-      at-refused : f .refused ≡ flatComparison (flat .0) .refused
-      at-refused = ap (λ z. z .refused) (flat .2)
-
-      at-covers : f .covers ≡ flatComparison (flat .0) .covers
-      at-covers = ap (λ z. z .covers) (flat .2)
 
       same : (x : CompareAnswer) (p : Pattern) → (flatCompared x p .length ≡ p .length) × (flatCompared x p .pattern ≡ p .outcomes)
       same compare.Covers p = (refl, refl)
@@ -80,17 +78,7 @@ module _ (a b : List ℕ) (f : FloeComparison) (flat : FlatAnswer (ComparedAs lo
       at-pattern : f .pattern ≡ flat .0 .pattern .outcomes
       at-pattern = ap (λ z. z .pattern) (flat .2) ∙ same x (flat .0 .pattern) .1
 
-      to : (x : CompareAnswer) → compare-says x ≡ tests → flatCompared x (flat .0 .pattern) .refused ≡ 0 → flatCompared x (flat .0 .pattern) .covers ≡ 0 → x ≡ compare.Between
-      to compare.Covers e r c = absurd (omega arith)
-      to compare.Between e r c = refl
-      to (compare.Refused w n v) e r c =
-          let (which, (low, high)) = one-of (setRows longest a) (setRows longest b) (set-numbers longest a) (set-numbers longest b) (sym e) in
-          absurd (omega arith)
-
-      back : x ≡ compare.Between → flat .0 .pattern ≡ p → (f .refused ≡ 0) × (f .covers ≡ 0) × (f .length ≡ p .length) × (f .pattern ≡ p .outcomes)
-      back e q = (
-        at-refused ∙ ap (λ z. flatCompared z (flat .0 .pattern) .refused) e,
-        at-covers ∙ ap (λ z. flatCompared z (flat .0 .pattern) .covers) e,
-        at-length ∙ ap (λ z. z .length) q,
-        at-pattern ∙ ap (λ z. z .outcomes) q,
-      )
+      known : (x : CompareAnswer) → Answers (setOf a) (setOf b) x (flat .0 .pattern) → flat .0 .pattern .length ≡ p .length → x ≡ compare.Between
+      known compare.Covers (c, e) l = let z = ap (λ y. y .length) e in absurd (omega arith)
+      known compare.Between v l = refl
+      known (compare.Refused w n v) e l = let z = ap (λ y. y .length) e in absurd (omega arith)

@@ -1,4 +1,4 @@
--- RULES, Kept: what demand 2 says of the bytes of a set and of a pattern. The set is accepted, the outcomes are 0 and 1, and the set keeps them.
+-- RULES, Kept: "A set keeps the patterns that all of its limits keep, and no others." The same of the bytes of a set and of a pattern: the set is accepted, the outcomes are 0 and 1, and the set keeps them.
 use mathlib.Core.Path.{_≡_}
 use mathlib.Core.List.{List}
 use Prim.Native.Nat.{ℕ, _≤_, _<_}

@@ -147,11 +147,18 @@ fn shown_forms() {
     prints(&source, &["2 0"]);
 }
 
-/// dropped.c calls every function and drops what it answers: every compiler says so, of each.
+/// What the archive exports the header declares, every function with the attribute. dropped.c calls each and drops what
+/// it answers, and every compiler says so.
 #[test]
 fn dropped_answers() {
     let header = read_to_string(file("include/floelinnet.h")).unwrap();
-    assert_eq!(header.lines().filter(|line| line.starts_with("FLOE_NODISCARD ")).count(), FUNCTIONS);
+    let symbols = programs::output(Command::new("nm").args(["-g", "--defined-only"]).arg(programs::archive()));
+    let exported: Vec<&str> = symbols.lines().filter_map(|line| line.split_once(" T ")).map(|(_, name)| name).collect();
+    assert_eq!(exported.len(), FUNCTIONS);
+    for name in exported {
+        let declared = |line: &str| line.starts_with("FLOE_NODISCARD ") && line.contains(&format!(" {name}("));
+        assert!(header.lines().any(declared), "{name}");
+    }
     for compiler in COMPILERS {
         let warnings = programs::warnings(compiler, &file("tests/c/dropped.c"));
         assert!(warnings.iter().all(|warning| warning.contains("[-Wunused-result]")), "{compiler:?}: {warnings:?}");
@@ -159,10 +166,10 @@ fn dropped_answers() {
     }
 }
 
-/// "No call uses more than 1024 bytes of stack", says the header.
+/// "No call uses more than 1024 bytes of stack", says the header, but for the dynamic linker's.
 #[test]
 fn stack() {
-    let program = programs::compile(&["gcc", "-std=c11"], &file("tests/c/stack.c"));
+    let program = programs::compile(&["gcc", "-std=c11", "-Wl,-z,now"], &file("tests/c/stack.c"));
     let said = programs::output(&mut Command::new(program));
     let used: Vec<(&str, usize)> = said
         .lines()

@@ -25,7 +25,7 @@ pub fn made(name: &str) -> PathBuf {
 }
 
 /// The archive that `rt staticlib floelinnet` makes, or the one in the folder that FLOELINNET_ARCHIVE_DIR names.
-fn archive() -> PathBuf {
+pub fn archive() -> PathBuf {
     let folder = env::var_os("FLOELINNET_ARCHIVE_DIR").unwrap_or_else(|| "../target/staticlib".into());
     Path::new(env!("CARGO_MANIFEST_DIR")).join(folder).join("libfloelinnet.a")
 }
