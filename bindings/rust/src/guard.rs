@@ -57,6 +57,7 @@ impl Guard {
     /// assert_eq!(guard.ask(&table)?, Answer::Normal);
     /// # Ok::<(), Refused>(())
     /// ```
+    #[must_use = "the guard is what comes back"]
     pub fn start(table: &[u8]) -> Result<Guard, Refused> {
         let started = raw::guard_start(table);
         accepted(started.refused, started.at)?;
@@ -91,6 +92,7 @@ impl Guard {
     /// assert_eq!(guard, Guard::start(&table)?);
     /// # Ok::<(), Refused>(())
     /// ```
+    #[must_use = "the guard to go on with is the one that comes back: `guard = guard.tell(..)?`"]
     pub fn tell(self, table: &[u8], outcome: u8) -> Result<Guard, Refused> {
         let told = raw::guard_tell(self, table, outcome);
         accepted(told.refused, told.at)?;
