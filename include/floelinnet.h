@@ -258,8 +258,9 @@ FLOE_NODISCARD floe_told floe_guard_tell(floe_guard guard, const uint8_t *table,
  *
  * A row has to be written so, or copied from one, before any call, floe_row_start too, which keeps the old guard where
  * it refuses. Then start each of its jobs, which checks the whole table; without that a guard of a new row can be asked
- * and told as well. A call concerns the guard of one job, numbered from 0: the guards of the other jobs are never
- * written, and the answer doesn't depend on them.
+ * and told as well. A call concerns the guard of one job, numbered from 0 (in a row a job is one of several that run
+ * side by side; in a pattern it is one run): the guards of the other jobs are never written, and the answer doesn't
+ * depend on them.
  */
 
 /*
