@@ -131,9 +131,9 @@ typedef struct { uint8_t kind, x, k; } floe_limit;
 typedef struct { uint64_t count; floe_limit limits[FLOE_MOST_LIMITS]; } floe_set;
 
 /* A guard: where one job stands on its table, and whether its outcomes are lost. It belongs to the table that it was
- * started on, and no call can see which that was: on another table it answers as if it had been started there, and is
- * refused only where that table has no such state. To copy it is to copy the job's standing. The byte of lost is 0 or
- * 1, as in every C bool: a guard that nobody wrote, or whose bytes come from elsewhere, is the caller's to rule out. */
+ * started on, and no call can see which that was: on another table its state is taken for the one of that number there,
+ * and refused only where there is none. To copy it is to copy the job's standing. The byte of lost is 0 or 1, as in
+ * every C bool: a guard that nobody wrote, or whose bytes come from elsewhere, is the caller's to rule out. */
 typedef struct { uint16_t state; bool lost; } floe_guard;
 
 typedef struct { uint64_t refused, at; floe_set set; } floe_set_read;

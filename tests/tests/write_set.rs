@@ -57,3 +57,17 @@ fn any_set_any_buffer() {
     }
     assert!([0, 3, 5, 6, 7, 9].iter().all(|&number| seen[number] > 1000), "{seen:?}");
 }
+
+/// A caller who hands lengths on and looks at the last answer alone sees that limits were refused.
+#[test]
+fn refused_limits_handed_on() {
+    for (count, kind, x, k) in [(0, 0, 1, 2), (9, 0, 1, 2), (1, 4, 1, 2), (1, 0, 1, 13), (1, 0, 3, 2)] {
+        let set = floe::Set { count, limits: [floe::Limit { kind, x, k }; 8] };
+        let (mut bytes, mut work, mut table) = ([7; 30], [7; 8192], [7; 8199]);
+        let written = floe::sets::write_set(set, &mut bytes);
+        let built = floe::builder::build(&bytes[..written.length as usize], &mut work, &mut table);
+        let table = &table[..built.length as usize];
+        let asked = floe::guard::ask(floe::guard::start(table).guard, table);
+        assert_eq!((written.refused > 0, built.refused, asked.refused, asked.answer), (true, 1, 10, 3), "{set:?}");
+    }
+}

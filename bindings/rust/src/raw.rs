@@ -30,10 +30,9 @@ pub struct Set {
 
 /// Where one job stands on its table: start it, ask it before each job, tell it after each.
 ///
-/// It belongs to the table that it was started on. No call can see which one that was: on another table it answers as
-/// if it had been started there, and is refused only where that table has no such state. To copy a guard is to copy the
-/// job's standing. The default is a guard with nothing told, which is what a new row holds; nobody has checked a table
-/// for it.
+/// It belongs to the table that it was started on. No call can see which one that was: on another table its state is
+/// taken for the one of that number there, and refused only where there is none. To copy a guard is to copy the job's
+/// standing. The default is a guard with nothing told, which is what a new row holds; nobody has checked a table for it.
 ///
 /// The guard to go on with is the one that comes back:
 ///

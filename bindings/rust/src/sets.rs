@@ -3,7 +3,7 @@ use core::fmt;
 use crate::refused::accepted;
 use crate::{no_such, raw, Refused, LONGEST_SET};
 
-/// One limit. Each says what has to hold in every window of k jobs, 1 to 12 of them; [`LimitSet::new`] judges the numbers.
+/// One limit: what has to hold in every window of its length, 1 to 12 jobs. [`LimitSet::new`] judges the numbers.
 #[derive(Clone, Copy, PartialEq, Eq, Hash, Debug)]
 pub enum Limit {
     /// At least x hits in k jobs.

@@ -35,14 +35,19 @@ use Rattle.floelinnet.specs.Flat.{FlatAnswer, flatSet, flatWritten, flat
 one-flat : {A R : Type 0} (promise : A → Type 0) (flat : A → R) → ((a b : A) → promise a → promise b → a ≡ b) → (r t : R) → FlatAnswer promise flat r → FlatAnswer promise flat t → r ≡ t
 one-flat promise flat one r t (a, p, e) (b, q, f) = e ∙ ap flat (one a b p q) ∙ sym f
 
+-- the same of an answer beside what was lent, as it is then
+one-flat-lent : {A R L : Type 0} (promise : A → L → Type 0) (flat : A → R) → ((a b : A) (z z′ : L) → promise a z → promise b z′ → (a ≡ b) × (z ≡ z′))
+    → (z z′ : L) (r t : R) → FlatAnswer (λ a. promise a z) flat r → FlatAnswer (λ a. promise a z′) flat t → (r ≡ t) × (z ≡ z′)
+one-flat-lent promise flat one z z′ r t (a, p, e) (b, q, f) =
+    let (same, lent) = one a b z z′ p q in
+    (e ∙ ap flat same ∙ sym f, lent)
+
 pub floe-read-set-one-result : (b : List ℕ) (r t : FloeSetRead) → FlatAnswer (ReadAs longest b) flatSet r → FlatAnswer (ReadAs longest b) flatSet t → r ≡ t
 floe-read-set-one-result b = one-flat (ReadAs longest b) flatSet (read-one-result longest b)
 
 pub floe-write-set-one-result : (s : LimitSet) (out o o′ : List ℕ) (r t : FloeWritten) → FlatAnswer (WrittenAs longest s out o) flatWritten r → FlatAnswer (WrittenAs longest s out o′) flatWritten t
     → (r ≡ t) × (o ≡ o′)
-floe-write-set-one-result s out o o′ r t (x, p, e) (y, q, f) =
-    let (same, outs) = written-one-result longest s out o o′ x y p q in
-    (e ∙ ap flatWritten same ∙ sym f, outs)
+floe-write-set-one-result s out = one-flat-lent (λ a o. WrittenAs longest s out o a) flatWritten (λ a b o o′. written-one-result longest s out o o′ a b)
 
 pub floe-judge-one-result : (b p : List ℕ) (r t : FloeVerdict) → FlatAnswer (JudgedAs longest b p) flatVerdict r → FlatAnswer (JudgedAs longest b p) flatVerdict t → r ≡ t
 floe-judge-one-result b p = one-flat (JudgedAs longest b p) flatVerdict (judge-one-result longest b p)
@@ -68,19 +73,12 @@ floe-guard-ask-one-result b g = one-flat (AskedAs b g) flatAsked (ask-one-result
 pub floe-guard-tell-one-result : (b : List ℕ) (g : Guard) (byte : ℕ) (r t : FloeTold) → FlatAnswer (ToldAs b g byte) flatTold r → FlatAnswer (ToldAs b g byte) flatTold t → r ≡ t
 floe-guard-tell-one-result b g byte = one-flat (ToldAs b g byte) flatTold (tell-one-result b g byte)
 
--- an answer beside the row as it is then
-one-flat-row : {A R : Type 0} (promise : A → List Guard → Type 0) (flat : A → R) → ((a b : A) (z z′ : List Guard) → promise a z → promise b z′ → (a ≡ b) × (z ≡ z′))
-    → (z z′ : List Guard) (r t : R) → FlatAnswer (λ a. promise a z) flat r → FlatAnswer (λ a. promise a z′) flat t → (r ≡ t) × (z ≡ z′)
-one-flat-row promise flat one z z′ r t (a, p, e) (b, q, f) =
-    let (same, rows) = one a b z z′ p q in
-    (e ∙ ap flat same ∙ sym f, rows)
-
 module _ (row : List Guard) (job : ℕ) (b : List ℕ) where
   pub floe-row-start-one-result : (z z′ : List Guard) (r t : FloeDone) → FlatAnswer (λ a. RowStartedAs row job b a z) flatStart r → FlatAnswer (λ a. RowStartedAs row job b a z′) flatStart t → (r ≡ t) × (z ≡ z′)
-  floe-row-start-one-result = one-flat-row (RowStartedAs row job b) flatStart (row-start-one-result row job b)
+  floe-row-start-one-result = one-flat-lent (RowStartedAs row job b) flatStart (row-start-one-result row job b)
 
   pub floe-row-ask-one-result : (r t : FloeRowAsked) → FlatAnswer (RowAskedAs row job b) flatAsk r → FlatAnswer (RowAskedAs row job b) flatAsk t → r ≡ t
   floe-row-ask-one-result = one-flat (RowAskedAs row job b) flatAsk (row-ask-one-result row job b)
 
   pub floe-row-tell-one-result : (byte : ℕ) (z z′ : List Guard) (r t : FloeDone) → FlatAnswer (λ a. RowToldAs row job b byte a z) flatTell r → FlatAnswer (λ a. RowToldAs row job b byte a z′) flatTell t → (r ≡ t) × (z ≡ z′)
-  floe-row-tell-one-result byte = one-flat-row (RowToldAs row job b byte) flatTell (row-tell-one-result row job b byte)
+  floe-row-tell-one-result byte = one-flat-lent (RowToldAs row job b byte) flatTell (row-tell-one-result row job b byte)
