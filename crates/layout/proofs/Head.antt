@@ -1,0 +1,45 @@
+-- What the head of a layout says, case by case, and what it holds where both its rows are passed. Assumes nothing.
+use mathlib.Core.Path.{_≡_, refl, sym, ap, _∙_}
+use mathlib.Core.Bool.{true, false, not, _||_}
+use mathlib.Core.List.{List, [], _∷_}
+use Prim.Native.Nat.{ℕ, zero, suc, _-_, _≤_, _<_}
+use native.Mathlib.Omega.{arith}
+use borrow.Author.Tests.{le-ltb, lt-ltb, eq-eqb, ne-eqb, ltb-false, eqb-true, not-false}
+use lib.Dec.{eqb, ltb}
+use lib.ListN.{length}
+use Rattle.layout.specs.Bytes.{lengthField, version}
+use Rattle.layout.specs.Refusal.{passed, refused, first}
+use Rattle.layout.specs.Head.{headRows, faultRow}
+use Rattle.layout.proofs.Rows.{passed-first, passed-not-refused, or-none}
+
+-- a number that isn't 0 is a refusal, and 0 is none
+pub some-fault : (n at : ℕ) → 1 ≤ n → faultRow n at ≡ refused n at
+some-fault zero at h = absurd (omega arith)
+some-fault (suc n) at h = refl
+
+pub no-fault : (n at : ℕ) → n ≡ 0 → faultRow n at ≡ passed
+no-fault n at e = ap (λ z. faultRow z at) e
+
+module _ (least wrong other : ℕ) (b : List ℕ) where
+  pub head-short : length b < least → first (headRows least wrong other b) ≡ refused wrong 0
+  unfolding first
+  head-short h = simp (lt-ltb _ _ h)
+
+  pub head-unequal : least ≤ length b → (lengthField b ≡ length b - 4 → ⊥) → first (headRows least wrong other b) ≡ refused wrong 0
+  unfolding first
+  head-unequal h n = simp (le-ltb _ _ h, ne-eqb _ _ n)
+
+  pub head-other : least ≤ length b → lengthField b ≡ length b - 4 → (version b ≡ 1 → ⊥) → first (headRows least wrong other b) ≡ refused other 0
+  unfolding first
+  head-other h e n = simp (le-ltb _ _ h, eq-eqb _ _ e, ne-eqb _ _ n)
+
+  pub head-right : least ≤ length b → lengthField b ≡ length b - 4 → version b ≡ 1 → first (headRows least wrong other b) ≡ passed
+  unfolding first
+  head-right h e v = simp (le-ltb _ _ h, eq-eqb _ _ e, eq-eqb _ _ v)
+
+  pub head-passed : first (headRows least wrong other b) ≡ passed → (least ≤ length b) × (lengthField b ≡ length b - 4) × (version b ≡ 1)
+  head-passed p =
+      let (f, q) = passed-first _ _ p in
+      let (g, _) = passed-first _ _ q in
+      let (l, e) = or-none _ _ f in
+      (ltb-false _ _ l, eqb-true _ _ (not-false _ e), eqb-true _ _ (not-false _ g))

@@ -1,0 +1,20 @@
+-- RULES, Refusals: what every layout's first numbers say: "fewer than" so many bytes, "or the length field doesn't match the number of bytes that follow it", and then the version, "isn't 1".
+use mathlib.Core.Bool.{not, _||_}
+use mathlib.Core.List.{List, [], _∷_}
+use Prim.Native.Nat.{ℕ, zero, suc, _-_}
+use lib.Dec.{eqb, ltb}
+use lib.ListN.{length}
+use Rattle.layout.specs.Bytes.{lengthField, version}
+use Rattle.layout.specs.Refusal.{Row, row, Tested, passed, refused}
+
+-- a layout of at least so many bytes; its number for a wrong length, and its number for another version
+abbrev pub headRows : (least wrong other : ℕ) → List ℕ → List Row
+headRows least wrong other b =
+    row wrong (ltb (length b) least || not (eqb (lengthField b) (length b - 4))) 0
+    ∷ row other (not (eqb (version b) 1)) 0
+    ∷ []
+
+-- what a number, 0 for none, says with a value beside it
+abbrev pub faultRow : (number at : ℕ) → Tested
+faultRow zero at = passed
+faultRow (suc n) at = refused (suc n) at
