@@ -2,66 +2,75 @@
 use mathlib.Core.Path.{_≡_, sym, ap, _∙_, subst}
 use mathlib.Core.Bool.{Bool, true, false}
 use mathlib.Core.List.{List, [], _∷_, _++_}
-use Prim.Native.Nat.{ℕ, suc, _+_, _≤_, _<_}
+use Prim.Native.Nat.{ℕ, _+_, _-_, _^_, _<_, _≤_}
+use native.Mathlib.Numerals.{add-one}
 use native.Mathlib.Omega.{arith}
 use lib.Dec.{T}
-use lib.ListN.{length, getD, take, length-map}
-use lib.Seq.{take-take, take-all}
-use Rattle.patterns.specs.Outcome.{outcome, outcomes}
-use Rattle.patterns.proofs.Outcomes.{outcomes-more}
+use lib.ListN.{length, getD, take}
+use lib.Seq.{take-take, take-suc, take-all}
+use Rattle.layout.specs.Refusal.{first}
 use Rattle.meaning.specs.declared.LimitSet.{LimitSet}
 use Rattle.meaning.specs.Kept.{Kept}
+use Rattle.meaning.specs.Longest.{longest}
 use Rattle.meaning.specs.Sets.{SetAllowed, KeptBy, LostAt, ruleAt}
 use Rattle.meaning.proofs.Decide.{T-of}
-use Rattle.meaning.proofs.SetLaws.{kept-by-hit, kept-by-take}
+use Rattle.meaning.proofs.SetLaws.{kept-by-hit, kept-by-take, kept-by-empty}
 use Rattle.history.specs.History.{historyOf, pushed}
 use Rattle.history.specs.MayMiss.{Blocks, mayMissUnder}
-use Rattle.history.proofs.Histories.{history-push}
+use Rattle.history.proofs.Histories.{history-push, history-start}
 use Rattle.history.proofs.MissLaws.{decides-under, may-miss-kept}
 use Rattle.history.proofs.Blocking.{none-blocks}
+use Rattle.verdict.specs.Turn.{Stands}
 
--- the first i outcomes of the bytes
-abbrev pub soFar : List ℕ → ℕ → List Bool
-soFar b i = take i (outcomes b)
+abbrev m : ℕ
+m = longest - 1
 
-pub all-so-far : (b : List ℕ) (i : ℕ) → length b ≤ i → soFar b i ≡ outcomes b
-all-so-far b i h = take-all i (outcomes b) (omega (arith, length-map b outcome))
+-- before the first outcome, and after the last
+pub stands-first : (s : LimitSet) (p : List Bool) → SetAllowed longest s → Stands s p 0 (2 ^ m - 1)
+stands-first s p ok = record { kept = kept-by-empty s longest ok; history = sym (history-start m); within = omega arith }
 
-module _ (s : LimitSet) (b : List ℕ) (i : ℕ) (l : i < length b) (k : KeptBy s (soFar b i)) where
-  next-is : (o : Bool) → outcome (getD b i 0) ≡ o → soFar b (i + 1) ≡ soFar b i ++ o ∷ []
-  next-is o e = outcomes-more b i l ∙ ap {B = List Bool} (λ z. soFar b i ++ z ∷ []) e
+pub stands-last : (s : LimitSet) (p : List Bool) (i h : ℕ) → length p ≤ i → Stands s p i h → KeptBy s p
+stands-last s p i h l stands = subst (λ z. KeptBy s z) (take-all i p l) (stands .kept)
 
-  pub hit-turn : outcome (getD b i 0) ≡ true → KeptBy s (soFar b (i + 1))
-  hit-turn e = subst (λ z. KeptBy s z) (sym (next-is true e)) (kept-by-hit s (soFar b i) k)
+module _ (s : LimitSet) (ok : SetAllowed longest s) (p : List Bool) (i h : ℕ) (l : i < length p) (stands : Stands s p i h) where
+  next-is : (o : Bool) → getD p i false ≡ o → take (i + 1) p ≡ take i p ++ o ∷ []
+  next-is o e = ap (λ z. take z p) (add-one i) ∙ take-suc p i false l ∙ ap {B = List Bool} (λ z. take i p ++ z ∷ []) e
 
-  module _ (m h : ℕ) (ok : SetAllowed (suc m) s) (q : h ≡ historyOf m (soFar b i)) where
-    pub history-turn : pushed m h (outcome (getD b i 0)) ≡ historyOf m (soFar b (i + 1))
-    history-turn =
-        ap (λ z. pushed m z (outcome (getD b i 0))) q
-        ∙ sym (history-push m (soFar b i) (outcome (getD b i 0)))
-        ∙ ap (historyOf m) (sym (outcomes-more b i l))
+  -- the history is pushed, and what is kept is said
+  goes-on : (o : Bool) → getD p i false ≡ o → (h′ : ℕ) → h′ ≡ pushed m h o → h′ < 2 ^ m → KeptBy s (take i p ++ o ∷ []) → Stands s p (i + 1) h′
+  goes-on o e h′ q w k = record {
+    kept = subst (λ z. KeptBy s z) (sym (next-is o e)) k;
+    history = q ∙ ap (λ z. pushed m z o) (stands .history) ∙ sym (history-push m (take i p) o) ∙ ap (historyOf m) (sym (next-is o e));
+    within = w;
+  }
 
-    module _ (miss : outcome (getD b i 0) ≡ false) (n : ℕ) (blocks : Blocks s h n) where
-      pub miss-turn : n ≡ s .count → KeptBy s (soFar b (i + 1))
-      miss-turn e =
-          subst (λ z. KeptBy s z) (sym (next-is false miss))
-          (may-miss-kept m (soFar b i) s ok k .0 (T-of _ (none-blocks s (historyOf m (soFar b i)) n (subst (λ z. Blocks s z n) q blocks) e)))
+  pub hit-turn : (o : Bool) → getD p i false ≡ o → o ≡ true → (h′ : ℕ) → h′ ≡ pushed m h o → h′ < 2 ^ m → Stands s p (i + 1) h′
+  hit-turn o next hit h′ q w = goes-on o next h′ q w (subst (λ z. KeptBy s (take i p ++ z ∷ [])) (sym hit) (kept-by-hit s (take i p) (stands .kept)))
 
-      -- what limit j says of the miss
-      decided : (j : ℕ) → j < s .count → T (mayMissUnder (ruleAt s j) h) → Kept (ruleAt s j) (soFar b (i + 1))
-      decided j lt t =
-          subst (λ z. Kept (ruleAt s j) z) (sym (next-is false miss))
-          (decides-under m (soFar b i) (ruleAt s j) (ok .each j lt .rule-allowed) (k j lt) .0 (subst (λ z. T (mayMissUnder (ruleAt s j) z)) q t))
+  module _ (o : Bool) (next : getD p i false ≡ o) (miss : o ≡ false) (n : ℕ) (blocks : Blocks s h n) where
+    after : take (i + 1) p ≡ take i p ++ false ∷ []
+    after = next-is false (next ∙ miss)
 
-      blocked : (j : ℕ) (lt : j < s .count) → mayMissUnder (ruleAt s j) h ≡ false → Kept (ruleAt s j) (soFar b (i + 1)) → ⊥
-      blocked j lt f g =
-          subst (λ z. T z) (ap (mayMissUnder (ruleAt s j)) (sym q) ∙ f)
-          (decides-under m (soFar b i) (ruleAt s j) (ok .each j lt .rule-allowed) (k j lt) .1 (subst (λ z. Kept (ruleAt s j) z) (next-is false miss) g))
+    pub miss-turn : n ≡ s .count → (h′ : ℕ) → h′ ≡ pushed m h o → h′ < 2 ^ m → Stands s p (i + 1) h′
+    miss-turn c h′ q w =
+        goes-on o next h′ q w (subst (λ z. KeptBy s (take i p ++ z ∷ [])) (sym miss)
+        (may-miss-kept m (take i p) s ok (stands .kept) .0 (T-of _ (none-blocks s (historyOf m (take i p)) n (subst (λ z. Blocks s z n) (stands .history) blocks) c))))
 
-      pub lost-turn : n < s .count → LostAt s (outcomes b) (i + 1) n
-      lost-turn lt = record {
-        lost = λ g. blocked n lt (blocks .here lt) (g n lt);
-        shortest = λ j h. subst (λ z. KeptBy s z) (take-take j i (outcomes b) (omega arith)) (kept-by-take s j (soFar b i) k);
-        breaks = blocked n lt (blocks .here lt);
-        lowest = λ j h. decided j (omega arith) (T-of _ (blocks .before j h));
-      }
+    -- what limit j says of the miss
+    decided : (j : ℕ) → j < s .count → T (mayMissUnder (ruleAt s j) h) → Kept (ruleAt s j) (take (i + 1) p)
+    decided j lt t =
+        subst (λ z. Kept (ruleAt s j) z) (sym after)
+        (decides-under m (take i p) (ruleAt s j) (ok .each j lt .rule-allowed) (stands .kept j lt) .0 (subst (λ z. T (mayMissUnder (ruleAt s j) z)) (stands .history) t))
+
+    blocked : (j : ℕ) (lt : j < s .count) → mayMissUnder (ruleAt s j) h ≡ false → Kept (ruleAt s j) (take (i + 1) p) → ⊥
+    blocked j lt f g =
+        subst (λ z. T z) (ap (mayMissUnder (ruleAt s j)) (sym (stands .history)) ∙ f)
+        (decides-under m (take i p) (ruleAt s j) (ok .each j lt .rule-allowed) (stands .kept j lt) .1 (subst (λ z. Kept (ruleAt s j) z) after g))
+
+    pub lost-turn : n < s .count → LostAt s p (i + 1) n
+    lost-turn lt = record {
+      lost = λ g. blocked n lt (blocks .here lt) (g n lt);
+      shortest = λ j k. subst (λ z. KeptBy s z) (take-take j i p (omega arith)) (kept-by-take s j (take i p) (stands .kept));
+      breaks = blocked n lt (blocks .here lt);
+      lowest = λ j k. decided j (omega arith) (T-of _ (blocks .before j k));
+    }

@@ -12,9 +12,6 @@ use Rattle.sets.specs.Rows.{setRows}
 use Rattle.verdict.specs.declared.Judgement.{Judgement}
 use Rattle.verdict.specs.declared.Judgement.the-variants.{Kept, Lost, Refused}
 
-abbrev pub judgeRows : (widest : ℕ) → (set pattern : List ℕ) → List Row
-judgeRows widest set pattern = setRows widest set ++ outcomeRows pattern 0
-
 -- the number of each answer, and what else is returned
 abbrev pub says : Judgement → Tested
 says Kept = passed
@@ -27,11 +24,13 @@ Verdict s p Kept = KeptBy s p
 Verdict s p (Lost job limit) = LostAt s p job limit
 Verdict s p (Refused number at) = Unit {0}
 
-pub record JudgedAs (widest : ℕ) (set pattern : List ℕ) (r : Judgement) : Type 0 where
-  pub refusal : says r ≡ first (judgeRows widest set pattern)
-  pub verdict : Verdict (setOf set) (outcomes pattern) r
-
--- the same of a set that has been read, and outcomes that have been tested
-pub record Judged (s : LimitSet) (p : List Bool) (r : Judgement) : Type 0 where
-  pub accepted : says r ≡ passed
+-- a verdict on outcomes, by the rows that are tested before it
+pub record JudgedBy (rows : List Row) (s : LimitSet) (p : List Bool) (r : Judgement) : Type 0 where
+  pub refusal : says r ≡ first rows
   pub verdict : Verdict s p r
+
+abbrev pub judgeRows : (widest : ℕ) → (set pattern : List ℕ) → List Row
+judgeRows widest set pattern = setRows widest set ++ outcomeRows pattern 0
+
+abbrev pub JudgedAs : (widest : ℕ) → (set pattern : List ℕ) → Judgement → Type 0
+JudgedAs widest set pattern = JudgedBy (judgeRows widest set pattern) (setOf set) (outcomes pattern)

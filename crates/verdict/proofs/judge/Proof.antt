@@ -57,6 +57,7 @@ judge-outcomes-requires c κs =
     accepted-set-allowed longest (r .before .before .before .args .set .now) (r .read-set .result) (r .read-set .ensures) (t .enum-told .given .1)
 
 returns-3 : tie.Need-returns-3
+unfolding first
 returns-3 c =
     let t = c .before .before .before in
     let r = t .before .before in
@@ -65,7 +66,7 @@ returns-3 c =
     let p = s .pattern .now in
     let e = t .enum-told .given .1 in
     record {
-      refusal = c .judge-outcomes .ensures .accepted
+      refusal = c .judge-outcomes .ensures .refusal
           ∙ sym (rows b p _ _ (accepted-rows longest b (r .read-set .result) (r .read-set .ensures) e) (c .before .before .first-bad .ensures .1 ∙ simp (le-ltb _ _ (c .before .if1 .left))));
       verdict = subst (λ z. Verdict z (outcomes p) (c .judge-outcomes .result)) (accepted-set longest b (r .read-set .result) (r .read-set .ensures) e) (c .judge-outcomes .ensures .verdict);
     }

@@ -1,54 +1,52 @@
--- `verdict::judge_outcomes`: the outcomes so far are kept, and the history holds the last of them. Assumes nothing.
-use mathlib.Core.Path.{_≡_, refl, sym, _∙_, subst}
-use mathlib.Core.Logic.{⊎-elim}
-use Prim.Native.Nat.{_≤_, _<_, _-_}
+-- `verdict::judge_outcomes` meets its contract: the invariant is that the outcomes so far stand. Assumes nothing.
+use mathlib.Core.Path.{_≡_, refl, subst}
+use Prim.Native.Nat.{_-_, _≤_}
 use native.Mathlib.Omega.{arith}
 use borrow.Author.Needs.{needs}
-use borrow.Author.Tests.{not-true, not-false}
-use lib.ListN.{length}
-use Rattle.meaning.specs.Longest.{longest}
-use Rattle.meaning.specs.Sets.{KeptBy}
-use Rattle.meaning.proofs.SetLaws.{kept-by-empty}
-use Rattle.history.specs.History.{historyOf}
-use Rattle.history.proofs.Histories.{history-start}
-use Rattle.history.proofs.Shifted.{shifted-pushed}
-use Rattle.verdict.proofs.Turns.{soFar, all-so-far, hit-turn, miss-turn, lost-turn, history-turn}
+use lib.ListN.{length, length-map, List·getD-map}
+use Rattle.layout.specs.Bytes.{byteAt}
+use Rattle.layout.specs.Refusal.{first}
+use Rattle.patterns.specs.Outcome.{outcome, outcomes}
+use Rattle.verdict.specs.Turn.{Stands, Turned}
+use Rattle.verdict.proofs.Turns.{stands-first, stands-last}
 use Rattle.verdict.proofs.judge_outcomes.Statement.{statement}
 use Rattle.verdict.proofs.judge_outcomes.Tie as tie
 
 abbrev Inv-loop : tie.InvT-loop
-Inv-loop set pattern count history₀ i₀ history i =
-    (i ≤ length pattern) × (history < 2048) × (history ≡ historyOf (longest - 1) (soFar pattern i)) × KeptBy set (soFar pattern i)
+Inv-loop set pattern history₀ i₀ history i = (i ≤ length pattern) × Stands set (outcomes pattern) i history
 
 abbrev μ-loop : tie.MeasureT-loop
-μ-loop set pattern count history₀ i₀ history i = length pattern - i
+μ-loop set pattern history₀ i₀ history i = length pattern - i
 
 loop-holds : tie.Need-loop-holds Inv-loop μ-loop
-loop-holds c = (omega arith, omega arith, sym (history-start (longest - 1)), kept-by-empty (c .before .args .set) longest (c .before .pre))
+loop-holds c = (omega arith, stands-first (c .before .args .set) (outcomes (c .before .args .pattern .now)) (c .before .pre))
 
-shared-slice-read-hit : tie.Need-shared-slice-read-hit Inv-loop μ-loop
-shared-slice-read-hit c = search needs
+shared-slice-read-take-turn : tie.Need-shared-slice-read-take-turn Inv-loop μ-loop
+shared-slice-read-take-turn c = search needs
 
-blocking-limit-requires : tie.Need-blocking-limit-requires Inv-loop μ-loop
-blocking-limit-requires c κs = c .before .before .before .before .before .pre
+take-turn-requires : tie.Need-take-turn-requires Inv-loop μ-loop
+take-turn-requires c κs = (c .before .before .before .before .pre, c .before .before .loop .inv .1 .within)
 
-add-t14 : tie.Need-add-t14 Inv-loop μ-loop
-add-t14 c = search needs
+enum-known-turned : tie.Need-enum-known-turned Inv-loop μ-loop
+enum-known-turned c = search needs
+
+enum-known-turned-2 : tie.Need-enum-known-turned-2 Inv-loop μ-loop
+enum-known-turned-2 c = search needs
+
+add-t13 : tie.Need-add-t13 Inv-loop μ-loop
+add-t13 c = search needs
 
 returns : tie.Need-returns Inv-loop μ-loop
+unfolding first
 returns c =
-    let s = c .before .before .before .before .before .before .before in
-    let l = c .before .before .before .before .before .loop in
-    let t = c .before .before .before .before .loop-test .taken in
-    let miss = not-true _ (c .before .before .if1 .taken) in
+    let l = c .before .before .before .before .before .before in
+    let s = l .before .before in
+    let p = s .args .pattern .now in
+    let t = c .before .before .before .take-turn in
     record {
-      accepted = refl;
-      verdict = lost-turn (s .args .set) (s .args .pattern .now) (l .i) t (l .inv .3) (longest - 1) (l .history) (s .pre) (l .inv .2) miss
-          (c .before .blocking-limit .result) (c .before .blocking-limit .ensures) (c .if2 .taken);
+      refusal = refl;
+      verdict = subst (λ z. Turned (s .args .set) (l .loop .history) (outcome (byteAt p (l .loop .i))) z) (c .before .turned2 .given .1) (t .ensures) (outcomes p) (l .loop .i) (omega (arith, length-map p outcome)) (List·getD-map outcome p (l .loop .i) 0) (l .loop .inv .1);
     }
-
-push-requires : tie.Need-push-requires Inv-loop μ-loop
-push-requires c κs = search needs
 
 add-i : tie.Need-add-i Inv-loop μ-loop
 add-i c = search needs
@@ -58,28 +56,22 @@ loop-less c = search needs
 
 loop-again : tie.Need-loop-again Inv-loop μ-loop
 loop-again c =
-    let s = c .before .before .before .before .before .before in
-    let l = c .before .before .before .before .loop in
-    let t = c .before .before .before .loop-test .taken in
-    let set = s .args .set in
-    let b = s .args .pattern .now in (
+    let l = c .before .before .before .before .before .before in
+    let s = l .before .before in
+    let p = s .args .pattern .now in
+    let t = c .before .before .before .take-turn in (
       omega arith,
-      omega arith,
-      c .push .ensures .0 ∙ shifted-pushed (longest - 1) _ (l .history) _ refl ∙ history-turn set b (l .i) t (l .inv .3) (longest - 1) (l .history) (s .pre) (l .inv .2),
-      ⊎-elim
-          (λ w. miss-turn set b (l .i) t (l .inv .3) (longest - 1) (l .history) (s .pre) (l .inv .2) (not-true _ (w .0 .taken))
-          (w .1 .result) (w .1 .ensures) (omega (arith, w .1 .ensures .within, w .2 .left)))
-          (λ w. hit-turn set b (l .i) t (l .inv .3) (not-false _ (w .left)))
-          (c .before .if1 .came),
+      subst (λ z. Turned (s .args .set) (l .loop .history) (outcome (byteAt p (l .loop .i))) z) (c .before .turned .given .1) (t .ensures) (outcomes p) (l .loop .i) (omega (arith, length-map p outcome)) (List·getD-map outcome p (l .loop .i) 0) (l .loop .inv .1),
     )
 
 returns-2 : tie.Need-returns-2 Inv-loop μ-loop
+unfolding first
 returns-2 c =
-    let s = c .before .before .before in
-    let l = c .before .loop in
+    let l = c .before in
+    let s = l .before .before .args in
     record {
-      accepted = refl;
-      verdict = subst (λ z. KeptBy (s .args .set) z) (all-so-far (s .args .pattern .now) (l .i) (omega arith)) (l .inv .3);
+      refusal = refl;
+      verdict = stands-last (s .set) (outcomes (s .pattern .now)) (l .loop .i) (l .loop .history) (omega (arith, length-map (s .pattern .now) outcome)) (l .loop .inv .1);
     }
 
 pub judge-outcomes-spec : {M : Type 1} → statement M
@@ -89,11 +81,12 @@ judge-outcomes-spec =
     Inv-loop
     μ-loop
     loop-holds
-    shared-slice-read-hit
-    blocking-limit-requires
-    add-t14
+    shared-slice-read-take-turn
+    take-turn-requires
+    enum-known-turned
+    enum-known-turned-2
+    add-t13
     returns
-    push-requires
     add-i
     loop-less
     loop-again
