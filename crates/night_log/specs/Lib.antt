@@ -1,0 +1,6 @@
+pub mod Bytes
+pub mod Rows
+pub mod Read
+pub mod Write
+pub mod Judge
+pub mod Reader
