@@ -2,9 +2,9 @@
 // Refuses by 15 for too many outcomes, then by 13, then by 9, and a refusal writes nothing.
 ghost use mathlib.Core.Path.{_≡_};
 ghost use mathlib.Core.List.{_++_};
-ghost use Prim.Native.Nat.{_+_, _≤_, _<_};
+ghost use Prim.Native.Nat.{_≤_, _<_};
 ghost use lib.ListN.{length, take, drop};
-ghost use Rattle.patterns.specs.Outcome.{outcome, outcomes, bit};
+ghost use Rattle.patterns.specs.Outcome.{outcomes, bit};
 ghost use Rattle.night_log.specs.Bytes.{packedSize, sizeOf, outcomeAt, byteFrom, packed, headBytes};
 ghost use Rattle.night_log.specs.Write.{LogWrittenAs};
 use super::packed_size;
@@ -13,60 +13,26 @@ use layout::WriteAnswer;
 // The most outcomes that the four bytes of a count can say.
 const MOST_OUTCOMES: usize = 4294967295;
 
-fn outcome_bit(byte: u8) -> u8
-    ensures { λ r. ⌜ (r ≡ bit (outcome byte)) × (r ≤ 1) ⌝ }
-{
-    (byte != 0) as u8
-}
-
 // The bit of outcome i, 0 past the last one.
 fn bit_at(pattern: &[u8], i: usize) -> u8
     ensures { λ r. ⌜ (r ≡ bit (outcomeAt (outcomes (now (pattern .entry))) i)) × (r ≤ 1) ⌝ }
 {
     if i < pattern.len() {
-        return outcome_bit(pattern[i]);
+        return (pattern[i] != 0) as u8;
     }
     0
 }
 
-// The byte of eight outcomes.
-fn full_byte(pattern: &[u8], i: usize) -> u8
-    requires { ⌜ i + 8 ≤ length (now pattern) ⌝ }
-    ensures { λ r. ⌜ r ≡ byteFrom (outcomes (now (pattern .entry))) i ⌝ }
-{
-    outcome_bit(pattern[i]) * 128
-        + outcome_bit(pattern[i + 1]) * 64
-        + outcome_bit(pattern[i + 2]) * 32
-        + outcome_bit(pattern[i + 3]) * 16
-        + outcome_bit(pattern[i + 4]) * 8
-        + outcome_bit(pattern[i + 5]) * 4
-        + outcome_bit(pattern[i + 6]) * 2
-        + outcome_bit(pattern[i + 7])
-}
-
-// The same where the outcomes may be fewer.
-fn last_byte(pattern: &[u8], i: usize) -> u8
-    requires { ⌜ i ≤ length (now pattern) ⌝ }
-    ensures { λ r. ⌜ r ≡ byteFrom (outcomes (now (pattern .entry))) i ⌝ }
-{
-    bit_at(pattern, i) * 128
-        + bit_at(pattern, i + 1) * 64
-        + bit_at(pattern, i + 2) * 32
-        + bit_at(pattern, i + 3) * 16
-        + bit_at(pattern, i + 4) * 8
-        + bit_at(pattern, i + 5) * 4
-        + bit_at(pattern, i + 6) * 2
-        + bit_at(pattern, i + 7)
-}
-
+// The byte of the eight outcomes from outcome i on.
 fn byte_from(pattern: &[u8], i: usize) -> u8
-    requires { ⌜ (i ≤ length (now pattern)) × (length (now pattern) < 4294967296) ⌝ }
+    requires { ⌜ i < 4294967296 ⌝ }
     ensures { λ r. ⌜ r ≡ byteFrom (outcomes (now (pattern .entry))) i ⌝ }
 {
-    if i + 8 <= pattern.len() {
-        return full_byte(pattern, i);
+    let mut byte = 0;
+    for k in 0..8 {
+        byte = byte * 2 + bit_at(pattern, i + k);
     }
-    last_byte(pattern, i)
+    byte
 }
 
 // The length field, the version and the count.

@@ -2,13 +2,13 @@
 use mathlib.Core.Path.{_≡_, refl, sym, ap, ap₂, _∙_}
 use mathlib.Core.List.{List, [], _∷_, _++_, append-assoc, append-nil}
 use Prim.Native.Nat.{ℕ, zero, suc, _+_, _-_, _*_, _≤_, _<_}
-use native.Mathlib.Nat.{zero-add, add-zero}
 use native.Mathlib.Numerals.{add-one}
 use native.Mathlib.Omega.{arith}
 use lib.ListN.{length, replicate, set, take, drop, length-append, take-append-drop}
-use lib.Seq.{set-at, take-at, length-take-le, drop-append-add, drop-drop}
+use lib.Seq.{set-at, length-take-le}
 use Rattle.layout.specs.Refusal.{Tested, passed, refused, first}
 use Rattle.layout.proofs.Rows.{and-then, first-append}
+use Rattle.layout.proofs.Runs.{one-more, put-next}
 use Rattle.meaning.specs.declared.LimitSet.{LimitSet}
 use Rattle.meaning.specs.Sets.{zeroLimit, limitAt}
 use Rattle.sets.specs.Bytes.{limitIn, limitsIn, setWith, bytesOfLimit, limitBytes}
@@ -39,20 +39,6 @@ module _ (w : ℕ) (s : LimitSet) (i c : ℕ) where
   unfolding limitsRows first
   limits-end h = let g : c - i ≡ zero = omega arith in rw g
 
--- a list that is f i, f (i + 1), .. in a row, one more
-module _ {A : Type 0} (f : ℕ → List A) (F : ℕ → ℕ → List A) (none : (i : ℕ) → F i zero ≡ []) (more : (i n : ℕ) → F i (suc n) ≡ f i ++ F (suc i) n) where
-  snoc : (i n : ℕ) → F i (suc n) ≡ F i n ++ f (i + n)
-  snoc i zero = more i zero ∙ simp (none, append-nil, add-zero)
-  snoc i (suc n) =
-      let g : suc i + n ≡ i + suc n = omega arith in
-      more i (suc n)
-      ∙ ap (λ l. f i ++ l) (snoc (suc i) n)
-      ∙ sym (append-assoc (f i) (F (suc i) n) (f (suc i + n)))
-      ∙ ap₂ (λ l j. l ++ f j) (sym (more i n)) g
-
-  one-more : (n : ℕ) → F 0 n ++ f n ≡ F 0 (n + 1)
-  one-more n = sym (rw (add-one, snoc 0 n, zero-add))
-
 limits-one-more : (b : List ℕ) (i : ℕ) → limitsIn b 0 i ++ limitIn b i ∷ [] ≡ limitsIn b 0 (i + 1)
 unfolding limitsIn
 limits-one-more b = one-more (λ j. limitIn b j ∷ []) (limitsIn b) (λ i. refl) (λ i n. refl)
@@ -74,12 +60,6 @@ set-turn b i h =
     ∙ set-at (limitsIn b 0 i) zeroLimit rest (limitIn b i) i (length-in b 0 i)
     ∙ sym (append-assoc (limitsIn b 0 i) (limitIn b i ∷ []) rest)
     ∙ ap (λ l. l ++ rest) (limits-one-more b i)
-
--- what is written so far is p, and d goes on after it; vs is written next
-pub put-next : (d p vs : List ℕ) (at n : ℕ) → length p ≡ at → take at (p ++ drop at d) ++ vs ++ drop (at + n) (p ++ drop at d) ≡ p ++ vs ++ drop (at + n) d
-put-next d p vs at n e =
-    ap₂ (λ a b. a ++ vs ++ b) (take-at p (drop at d) at e)
-    (ap (λ k. drop (k + n) (p ++ drop at d)) (sym e) ∙ drop-append-add p (drop at d) n ∙ drop-drop n at d)
 
 pub length-bytes : (s : LimitSet) (i n : ℕ) → length (limitBytes s i n) ≡ 3 * n
 unfolding limitBytes

@@ -9,6 +9,7 @@ use lib.Dec.{ltb}
 use lib.ListN.{length, take, drop}
 use Rattle.layout.specs.Refusal.{row, Tested, passed, first}
 use Rattle.layout.proofs.Rows.{and-then, first-here, first-skip, first-append}
+use Rattle.layout.proofs.Runs.{put-next}
 use Rattle.meaning.specs.declared.LimitSet.{LimitSet}
 use Rattle.meaning.specs.Longest.{longest}
 use Rattle.meaning.specs.Sets.{SetAllowed}
@@ -18,7 +19,6 @@ use Rattle.sets.specs.Read.{says as answers}
 use Rattle.sets.specs.Rows.{memoryRows}
 use Rattle.sets.specs.Write.{sizeOf, writeRows, says, lengthOf, lengthWhen, bufferWhen, WrittenAs}
 use Rattle.sets.proofs.Accepted.{memory-allowed}
-use Rattle.sets.proofs.Turns.{put-next}
 use Rattle.sets.proofs.write.write_set.Statement.{statement}
 use Rattle.sets.proofs.write.write_set.Tie as tie
 
