@@ -148,9 +148,9 @@ module _ {M : Type 1} (𝓤 : URA M) (H : Heap 𝓤) (A : Atoms 𝓤) (W : Given
         use1 W (‵ (fat fullShare (T′.mir erased) b o (mach h))) (W .laws .raw-at fullShare (T′.mir erased) b o (mach h)) $
         move ! (1 ∷ []) $ peeks ! (B κ′) (Is (B κ′)) (shows 𝓤 H A (B κ′)) h (mach h ∷ []) (λ was. move ! (1 ∷ 0 ∷ []) $
         let had = LL.owed (T.the-type (α κ′)) (T′.the-laws (α κ′)) h _ was in
-        -- [the struct's cell; what it owns; the open borrow; obs; auth; 'a's token; true; _4; …; _3; …; _2; …; _1; …; room for _0; …]
+        -- [the struct's cell; what it owns; the open borrow; obs; auth; 'a's token; true; _4; …; _3; …; _2; …; _1; …; room for _0; …]. The place lies at byte 16 of both structs
         assigns ! (of-opd ! (load ! (from ! (hop ! (look ! 13 refl) (fld ! refl (stop !)))) (look-in ! 0 (sub ! 0 refl (whole !))))) (from ! (stop !)) (init ! 9 refl (tt, (tt, (record { fits = had .0 .0 .1 .0 }, tt)))) $
-        assigns ! (of-opd ! (load ! (from ! (hop ! (look ! 13 refl) (fld ! refl (stop !)))) (look-in ! 0 (sub ! 1 refl (whole !))))) (from ! (stop !)) (init ! 7 refl (tt, record { fits = had .1 .0 .1 })) $
+        assigns ! (of-opd ! (load ! (from ! (hop ! (look ! 13 refl) (fld ! {d = 16} refl (stop !)))) (look-in ! 0 (sub ! 1 {d = 16} refl (whole !))))) (from ! (stop !)) (init ! 7 refl (tt, record { fits = had .1 .0 .1 })) $
         move ! (1 ∷ 5 ∷ []) $ use2 W (raw (One 𝓤 H A at-mem run .pre to) ⊛ ‵ (Own h)) (goes (had .1 .0 .1)) $ split ! $
         -- [what `read_log` asks; what the struct owns; its cell; the open borrow; obs; auth; true; the locals from 7 on]
         calls-at ! fm (One 𝓤 H A at-mem run) known to (and-then ! (load ! (from ! (stop !)) (look ! 9 refl)) (and-then ! (load ! (from ! (stop !)) (look ! 7 refl)) (no-more !))) (λ u.
@@ -161,7 +161,7 @@ module _ {M : Type 1} (𝓤 : URA M) (H : Heap 𝓤) (A : Atoms 𝓤) (W : Given
         drop ! $ land ! (from ! (stop !)) (init ! 11 refl (LL.lawful D.the-type D′.the-laws 𝓤 H A W .typed r _ is .0)) $
         rewrite ! 11 (λ (z : Val). ‵ (fat fullShare D′.mir l₂ 0 z)) (ap only (LL.tells D.the-type D′.the-laws r _ is)) refl $
         -- ['a's token; what the struct owns; its cell; the open borrow; obs; auth; true; the locals from 7 on]
-        assigns ! (of-opd ! (load ! (from ! (fld ! refl (stop !))) (look-in ! 11 (sub ! 1 refl (whole !))))) (from ! (hop ! (look ! 13 refl) (fld ! refl (stop !)))) (store-in ! 2 (sub ! 1 refl (whole !)) (tt, record { fits = fields .1 .0 .1 })) $
+        assigns ! (of-opd ! (load ! (from ! (fld ! {d = 16} refl (stop !))) (look-in ! 11 (sub ! 1 {d = 16} refl (whole !))))) (from ! (hop ! (look ! 13 refl) (fld ! {d = 16} refl (stop !)))) (store-in ! 2 (sub ! 1 {d = 16} refl (whole !)) (tt, record { fits = fields .1 .0 .1 })) $
         assigns ! (of-opd ! (load ! (from ! (fld ! refl (stop !))) (look-in ! 11 (sub ! 0 refl (whole !))))) (from ! (stop !)) (init ! 15 refl (EL.lawful S.the-type S′.the-laws 𝓤 H A W tt .typed (r .answer) _ (fields .0) .0)) $
         move ! (1 ∷ []) $ use1 W (‵ (Own (at-place (r .place)))) (again (r .place) (fields .1 .0 .1)) $
         move ! (2 ∷ []) $ use1 W (‵ (cellAt fullShare (B κ′ .mir) (mach (at-place (r .place)) ∷ []) b o)) (W .laws .at-raw fullShare (T′.mir erased) b o (mach (at-place (r .place)))) $
