@@ -3,12 +3,13 @@ use mathlib.Core.Path.{_≡_, refl, sym, ap, ap₂, _∙_}
 use mathlib.Core.Bool.{Bool}
 use mathlib.Core.List.{List, [], _∷_, _++_, append-assoc, append-nil}
 use Prim.Native.Nat.{ℕ, zero, suc, _+_, _*_, _^_, _≤_, _<_}
+use native.Mathlib.Nat.{add-zero}
 use native.Mathlib.Numerals.{add-one}
 use native.Mathlib.Omega.{arith}
 use lib.ListN.{length, set, take, drop, length-append, take-append-drop}
 use lib.Pow.{pow-mono}
-use lib.Seq.{set-at, length-take-le, drop-cons}
-use Rattle.layout.specs.Bytes.{byteAt}
+use lib.Seq.{set-at, length-take-le, drop-cons, drop-drop}
+use Rattle.layout.specs.Bytes.{byteAt, fourBytes}
 use Rattle.layout.proofs.Runs.{one-more}
 use Rattle.patterns.specs.Outcome.{bit}
 use Rattle.patterns.proofs.Numbers.{bit-le}
@@ -32,7 +33,7 @@ module _ (p : List Bool) (i : ℕ) where
   bits-more n = ap (bitsFrom p i) (sym (add-one n))
 
   pub bits-eight : bitsFrom p i 8 ≡ byteFrom p i
-  bits-eight = omega arith
+  bits-eight = omega (arith, ap (λ z. bit (outcomeAt p z)) (add-zero i))
 
 -- the bytes so far past the head of a buffer d
 abbrev pub packedTo : List Bool → List ℕ → ℕ → List ℕ
@@ -62,3 +63,10 @@ module _ (p : List Bool) (d : List ℕ) where
       ∙ set-at w (byteAt d (9 + j)) (drop (suc (9 + j)) d) v (9 + j) n
       ∙ sym (append-assoc w (v ∷ []) (drop (suc (9 + j)) d))
       ∙ ap₂ (λ l k. l ++ drop k d) (append-assoc (take 9 d) (packed p 0 j) (v ∷ []) ∙ ap (λ l. take 9 d ++ l) (packed-more j)) g
+
+-- a number of four bytes, the version and another such number, at the start of a buffer
+pub head-written : (d first second : List ℕ) (m n : ℕ) → 9 ≤ length d → first ≡ take 0 d ++ fourBytes m ++ drop 4 d
+    → second ≡ take 5 (set first 4 1) ++ fourBytes n ++ drop 9 (set first 4 1) → second ≡ fourBytes m ++ (1 ∷ fourBytes n) ++ drop 9 d
+head-written d first second m n h e f =
+    let stored = e ∙ ap (λ z. fourBytes m ++ z) (drop-cons d 4 0 (omega arith)) in
+    f ∙ ap (λ z. take 5 (set z 4 1) ++ fourBytes n ++ drop 9 (set z 4 1)) stored ∙ ap (λ z. fourBytes m ++ (1 ∷ fourBytes n) ++ z) (drop-drop 4 5 d)

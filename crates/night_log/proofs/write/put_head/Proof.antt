@@ -1,38 +1,43 @@
+-- `night_log::write::put_head` meets its contract: two numbers of four bytes, and the version between them. Assumes nothing.
+use mathlib.Core.Path.{_≡_, ap, _∙_}
+use mathlib.Core.List.{_++_}
+use Prim.Native.Nat.{_+_}
+use native.Mathlib.Omega.{arith}
+use lib.ListN.{drop, length-set}
 use borrow.Author.Needs.{needs}
+use Rattle.layout.specs.Bytes.{fourBytes}
+use Rattle.night_log.specs.Bytes.{packedSize}
+use Rattle.night_log.proofs.Written.{head-written}
 use Rattle.night_log.proofs.write.put_head.Statement.{statement}
 use Rattle.night_log.proofs.write.put_head.Tie as tie
-use Rattle.night_log.proofs.write.put_head.Reads as reads
-use Rattle.night_log.proofs.write.put_head.Lts as lts
-use Rattle.layout.proofs.put_four.Reads as put-four-reads
-use Rattle.night_log.proofs.packed_size.Reads as packed-size-reads
 
--- src/write.rt:43:34
 packed-size-requires : tie.Need-packed-size-requires
 packed-size-requires c κs = search needs
 
--- src/write.rt:43:30
 add-put-four : tie.Need-add-put-four
 add-put-four c = search needs
 
--- src/write.rt:43:5
 put-four-requires : tie.Need-put-four-requires
 put-four-requires c κs = search needs
 
--- src/write.rt:44:5
 slice-write-out : tie.Need-slice-write-out
 slice-write-out c = search needs
 
--- src/write.rt:45:5
 put-four-requires-2 : tie.Need-put-four-requires-2
-put-four-requires-2 c κs = ?
+put-four-requires-2 c κs = (simp length-set (omega (arith, c .before .before .before .put-four .kept .0)), omega arith)
 
--- src/write.rt:39:1
 same-length : tie.Need-same-length
-same-length c = ?
+same-length c =
+    let p = c .before .before .before .before .before .before .put-four in
+    c .before .before .put-four2 .kept .0 ∙ length-set (p .last .0) 4 1 ∙ p .kept .0
 
--- src/write.rt:39:1
 returns : tie.Need-returns
-returns c = ?
+returns c =
+    let p = c .before .before .before .before .before .before in
+    let s = p .before .before .before .before in
+    head-written (s .args .out .now) (p .put-four .last .0) _ (5 + packedSize (s .args .count)) (s .args .count) (s .pre .1)
+    (p .put-four .ensures ∙ ap (λ z. fourBytes (5 + z) ++ drop 4 (s .args .out .now)) (p .before .packed-size .ensures .0))
+    (c .before .before .put-four2 .ensures)
 
 pub put-head-spec : {M : Type 1} → statement M
 put-head-spec =
