@@ -1,2 +1,4 @@
 pub mod Accepted
 pub mod Outcomes
+pub mod Packing
+pub mod RoundTrip
