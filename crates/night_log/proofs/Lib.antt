@@ -1,3 +1,5 @@
 pub mod Accepted
 pub mod Outcomes
+pub mod Packing
 pub mod Written
+pub mod RoundTrip
