@@ -1,13 +1,12 @@
 -- What each way out of the builder gives: a refusal is the first row that holds, and past 8 the work area is cleared. Assumes nothing.
-use mathlib.Core.Path.{_≡_, refl, sym, ap, ap₂, _∙_, subst}
+use mathlib.Core.Path.{_≡_, refl, sym, ap, _∙_, subst}
 use mathlib.Core.Option.{none}
 use mathlib.Core.List.{List, [], _∷_, _++_}
 use Prim.Native.Nat.{ℕ, _≤_, _<_}
-use borrow.Author.Tests.{lt-ltb, le-ltb}
-use lib.Dec.{ltb}
 use lib.ListN.{length, drop}
-use Rattle.layout.specs.Refusal.{row, Tested, passed, refused, first}
-use Rattle.layout.proofs.Rows.{and-then, first-append, first-here, first-skip, passed-not-refused}
+use Rattle.layout.specs.Refusal.{passed, refused, first}
+use Rattle.layout.specs.Write.{roomRow, lengthWhen}
+use Rattle.layout.proofs.Rows.{too-short, long-enough, refused-before, passed-before, passed-not-refused}
 use Rattle.machines.specs.Machine.{Machine}
 use Rattle.machines.specs.Canonical.{Canonical}
 use Rattle.meaning.specs.declared.LimitSet.{LimitSet}
@@ -18,7 +17,7 @@ use Rattle.table.specs.Bytes.{bytesOf, sizeOf}
 use Rattle.classes.specs.Area.{areaSize, Within}
 use Rattle.builder.specs.declared.BuildAnswer.{BuildAnswer}
 use Rattle.builder.specs.declared.BuildAnswer.the-variants.{Built, Refused}
-use Rattle.builder.specs.Build.{areaRow, roomRow, earlyRows, buildRows, lengthWhen, Cleared, WorkAfter, tableWhen, BuiltAs}
+use Rattle.builder.specs.Build.{areaRow, earlyRows, Cleared, WorkAfter, tableWhen, BuiltAs}
 use Rattle.builder.specs.Steps.{BuildsTable}
 
 pub clear-within : (a b c : List ℕ) → Within a b → Cleared b c → Cleared a c
@@ -28,18 +27,10 @@ clear-within a b c f g = record {
   beyond = λ k h. g .beyond k h ∙ f .beyond k h;
 }
 
--- one row, and no other
-one-row : (n v : ℕ) (a b : ℕ) → a < b → first (row n (ltb a b) v ∷ []) ≡ refused n v
-one-row n v a b h = first-here n v (ltb a b) [] (lt-ltb a b h)
-
-no-row : (n v : ℕ) (a b : ℕ) → b ≤ a → first (row n (ltb a b) v ∷ []) ≡ passed
-unfolding first
-no-row n v a b h = first-skip n v (ltb a b) [] (le-ltb a b h)
-
 module _ (s : LimitSet) (work work′ table : List ℕ) (m : Machine) (canonical : Canonical m (KeptBy s)) (cleared : Cleared work work′) where
   pub short-table : length table < sizeOf (m .states) → BuildsTable s work work′ table table (Refused 9 (sizeOf (m .states))) m
   short-table h =
-      let e = one-row 9 (sizeOf (m .states)) (length table) (sizeOf (m .states)) h in
+      let e = too-short 9 (sizeOf (m .states)) (length table) (sizeOf (m .states)) h in
       record {
         canonical = canonical;
         answer = sym e;
@@ -50,7 +41,7 @@ module _ (s : LimitSet) (work work′ table : List ℕ) (m : Machine) (canonical
 
   pub whole-table : (table′ : List ℕ) → sizeOf (m .states) ≤ length table → table′ ≡ bytesOf m ++ drop (sizeOf (m .states)) table → BuildsTable s work work′ table table′ (Built (sizeOf (m .states))) m
   whole-table table′ h q =
-      let e = no-row 9 (sizeOf (m .states)) (length table) (sizeOf (m .states)) h in
+      let e = long-enough 9 (sizeOf (m .states)) (length table) (sizeOf (m .states)) h in
       record {
         canonical = canonical;
         answer = sym e;
@@ -64,16 +55,10 @@ no-machine : Machine
 no-machine = record { states = 0; start = 0; next = λ s o. none }
 
 module _ (widest : ℕ) (set work table : List ℕ) where
-  early : (t u : Tested) → first (setRows widest set) ≡ t → first (areaRow work ∷ []) ≡ u → first (earlyRows widest set work) ≡ and-then t u
-  early t u e f = first-append (setRows widest set) (areaRow work ∷ []) ∙ ap₂ and-then e f
-
-  all : (size : ℕ) (t u : Tested) → first (earlyRows widest set work) ≡ t → first (roomRow table size ∷ []) ≡ u → first (buildRows widest set work table size) ≡ and-then t u
-  all size t u e f = first-append (earlyRows widest set work) (roomRow table size ∷ []) ∙ ap₂ and-then e f
-
   refused-early : (n v : ℕ) → first (earlyRows widest set work) ≡ refused n v → BuiltAs widest set work work table table (Refused n v)
   refused-early n v e =
       let size = sizeOf (no-machine .states) in
-      let f = all size (refused n v) _ e refl in (
+      let f = refused-before (earlyRows widest set work) (roomRow table size ∷ []) e in (
         no-machine,
         record {
           canonical = λ p. absurd (passed-not-refused (sym p ∙ e));
@@ -85,17 +70,17 @@ module _ (widest : ℕ) (set work table : List ℕ) where
       )
 
   pub refused-set : (n v : ℕ) → first (setRows widest set) ≡ refused n v → BuiltAs widest set work work table table (Refused n v)
-  refused-set n v e = refused-early n v (early (refused n v) _ e refl)
+  refused-set n v e = refused-early n v (refused-before _ (areaRow work ∷ []) e)
 
   pub refused-area : first (setRows widest set) ≡ passed → length work < areaSize → BuiltAs widest set work work table table (Refused 8 0)
-  refused-area e h = refused-early 8 0 (early passed (refused 8 0) e (one-row 8 0 (length work) areaSize h))
+  refused-area e h = refused-early 8 0 (passed-before _ (areaRow work ∷ []) e ∙ too-short 8 0 (length work) areaSize h)
 
   pub built-table : (work′ table′ : List ℕ) (r : BuildAnswer) → first (setRows widest set) ≡ passed → areaSize ≤ length work
       → (m : Machine) × BuildsTable (setOf set) work work′ table table′ r m → BuiltAs widest set work work′ table table′ r
   built-table work′ table′ r e h (m, b) =
       let size = sizeOf (m .states) in
-      let p : first (earlyRows widest set work) ≡ passed = early passed passed e (no-row 8 0 (length work) areaSize h) in
-      let f : first (buildRows widest set work table size) ≡ first (roomRow table size ∷ []) = all size passed _ p refl in (
+      let p : first (earlyRows widest set work) ≡ passed = passed-before _ (areaRow work ∷ []) e ∙ long-enough 8 0 (length work) areaSize h in
+      let f = passed-before (earlyRows widest set work) (roomRow table size ∷ []) p in (
         m,
         record {
           canonical = λ q. b .canonical;

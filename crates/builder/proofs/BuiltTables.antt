@@ -8,6 +8,7 @@ use Prim.Native.Nat.{ℕ, _-_, _≤_, _<_}
 use lib.ListN.{take, drop}
 use lib.Seq.{take-at}
 use Rattle.layout.specs.Refusal.{passed, first}
+use Rattle.layout.specs.Write.{roomRow, lengthWhen}
 use Rattle.layout.proofs.Rows.{both-passed}
 use Rattle.machines.specs.Machine.{Machine, Walks}
 use Rattle.machines.specs.Canonical.{Canonical, OneTable}
@@ -28,7 +29,7 @@ use Rattle.table.specs.Rows.{tableRows, mostStates}
 use Rattle.table.specs.Writable.{Writable}
 use Rattle.table.proofs.Bytes.{machine-of-bytes, bytes-checked, bytes-length}
 use Rattle.builder.specs.declared.BuildAnswer.the-variants.{Built}
-use Rattle.builder.specs.Build.{areaRow, roomRow, earlyRows, buildRows, lengthWhen, tableWhen, BuiltAs}
+use Rattle.builder.specs.Build.{areaRow, earlyRows, buildRows, tableWhen, BuiltAs}
 
 module _ (s : LimitSet) (ok : SetAllowed longest s) (m : Machine) (canonical : Canonical m (KeptBy s)) where
   abbrev source : Machine

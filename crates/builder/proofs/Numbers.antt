@@ -4,10 +4,11 @@ use mathlib.Core.List.{List, [], _∷_, _++_}
 use Prim.Native.Nat.{ℕ, _≤_}
 use native.Mathlib.Omega.{arith}
 use Rattle.layout.specs.Refusal.{Row, Tested, passed, refused, first}
+use Rattle.layout.specs.Write.{roomRow}
 use Rattle.layout.proofs.Rows.{and-then, first-append, Numbers, from-to, first-number, numbers-append, numbers-among}
 use Rattle.sets.specs.Rows.{setRows}
 use Rattle.sets.proofs.Numbers.{set-numbers}
-use Rattle.builder.specs.Build.{areaRow, roomRow, earlyRows, buildRows, Cleared, WorkAfter}
+use Rattle.builder.specs.Build.{areaRow, earlyRows, buildRows, Cleared, WorkAfter}
 
 pub early-numbers : (w : ℕ) (set work : List ℕ) → Numbers (from-to 1 8) (earlyRows w set work)
 early-numbers w set work =

@@ -1,14 +1,14 @@
 -- The builder's promise allows one result: past 8 the machine is canonical for the set's patterns, so its table is unique; before that no machine is asked for. Assumes nothing.
 use mathlib.Core.Path.{_≡_, refl, sym, ap, ap₂, _∙_}
 use mathlib.Core.Logic.{dite}
-use mathlib.Core.List.{List, [], _∷_, _++_}
+use mathlib.Core.List.{List, [], _∷_}
 use Prim.Native.Nat.{ℕ}
 use native.Mathlib.Decide.{decLt}
 use native.Mathlib.Omega.{arith}
-use lib.ListN.{drop}
 use lib.Seq.{ext-getD}
 use Rattle.layout.specs.Refusal.{Tested, passed, refused, first}
-use Rattle.layout.proofs.Rows.{and-then, first-append, passed-not-refused}
+use Rattle.layout.specs.Write.{roomRow, lengthWhen, bufferWhen}
+use Rattle.layout.proofs.Rows.{refused-before, passed-not-refused}
 use Rattle.machines.specs.Machine.{Machine}
 use Rattle.machines.specs.Canonical.{OneTable}
 use Rattle.machines.proofs.Unique.{canonical-unique}
@@ -19,7 +19,7 @@ use Rattle.table.proofs.Bytes.{bytes-of-one-table}
 use Rattle.classes.specs.Area.{areaSize}
 use Rattle.builder.specs.declared.BuildAnswer.{BuildAnswer}
 use Rattle.builder.specs.declared.BuildAnswer.the-variants.{Built, Refused}
-use Rattle.builder.specs.Build.{earlyRows, buildRows, roomRow, says, lengthOf, lengthWhen, Cleared, WorkAfter, tableWhen, BuiltWith, BuiltAs}
+use Rattle.builder.specs.Build.{earlyRows, buildRows, says, lengthOf, Cleared, WorkAfter, tableWhen, BuiltWith, BuiltAs}
 
 same-answer : (r t : BuildAnswer) → says r ≡ says t → lengthOf r ≡ lengthOf t → r ≡ t
 same-answer (Built n) (Built k) e l = ap Built l
@@ -37,10 +37,6 @@ work-once passed w a b f g = cleared-once w a b f g
 work-once (refused n v) w a b f g = f ∙ sym g
 
 module _ (widest : ℕ) (set work table : List ℕ) where
-  -- what the rows say, by what the early ones say
-  rows : (size : ℕ) → first (buildRows widest set work table size) ≡ and-then (first (earlyRows widest set work)) (first (roomRow table size ∷ []))
-  rows size = first-append (earlyRows widest set work) (roomRow table size ∷ [])
-
   -- the answer and the table, by one answer of the rows and one machine's size and bytes
   module _ (a b c d : List ℕ) (r t : BuildAnswer) (m n : Machine) (f : BuiltWith widest set work a table c r m) (g : BuiltWith widest set work b table d t n) where
     abbrev size : Machine → ℕ
@@ -57,7 +53,7 @@ module _ (widest : ℕ) (set work table : List ℕ) where
     )
 
     early-refused : (k v : ℕ) → first (earlyRows widest set work) ≡ refused k v → (q : Machine) → answered q ≡ refused k v
-    early-refused k v e q = rows (size q) ∙ ap (λ z. and-then z (first (roomRow table (size q) ∷ []))) e
+    early-refused k v e q = refused-before (earlyRows widest set work) (roomRow table (size q) ∷ []) e
 
     one-table : OneTable m n → (size m ≡ size n) × (bytesOf m ≡ bytesOf n)
     one-table o = (ap sizeOf (o .states), bytes-of-one-table m n o)
@@ -72,14 +68,7 @@ module _ (widest : ℕ) (set work table : List ℕ) where
     once passed e =
         let (s, w) = one-table (canonical-unique m n (KeptBy (setOf set)) (KeptBy (setOf set)) (f .canonical e) (g .canonical e) (λ p. (λ k. k, λ k. k))) in
         let x : answered m ≡ answered n = ap (λ z. first (buildRows widest set work table z)) s in
-        same-of x (ap₂ lengthWhen x s) (tables (answered m) (answered n) x s w)
-      where
-        tables : (p q : Tested) → p ≡ q → size m ≡ size n → bytesOf m ≡ bytesOf n → tableWhen p m table ≡ tableWhen q n table
-        tables p q x s w = ap (λ z. tableWhen z m table) x ∙ by q
-          where
-            by : (q : Tested) → tableWhen q m table ≡ tableWhen q n table
-            by passed = ap₂ (λ u k. u ++ drop k table) w s
-            by (refused k v) = refl
+        same-of x (ap₂ lengthWhen x s) (ap (λ z. tableWhen z m table) x ∙ ap₂ (λ k u. bufferWhen (answered n) k u table) s w)
 
 pub built-one-result : (widest : ℕ) (set work table a b c d : List ℕ) (r t : BuildAnswer) → BuiltAs widest set work a table c r → BuiltAs widest set work b table d t → (r ≡ t) × (a ≡ b) × (c ≡ d)
 built-one-result widest set work table a b c d r t (m, f) (n, g) = once widest set work table a b c d r t m n f g (first (earlyRows widest set work)) refl

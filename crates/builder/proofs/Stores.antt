@@ -1,25 +1,16 @@
 -- Rows stored one after the other: what is written so far, and then the buffer as it was. Assumes nothing.
 use mathlib.Core.Path.{_≡_, sym, ap, ap₂, _∙_}
 use mathlib.Core.List.{List, [], _∷_, _++_, append-assoc}
-use Prim.Native.Nat.{ℕ, zero, suc, _+_, _*_, _≤_}
+use Prim.Native.Nat.{ℕ, zero, suc, _+_, _*_, _/_, _%_, _≤_}
 use native.Mathlib.Numerals.{add-one}
 use native.Mathlib.Omega.{arith}
-use lib.ListN.{length, set, take, drop, length-append, take-append-drop}
+use lib.ListN.{length, set, take, drop, length-append, length-drop, take-append-drop}
 use lib.Seq.{take-at, drop-drop, length-take-le, sets-eq, drop-append-add}
 use mathlib.Core.Bool.{true, false}
+use Rattle.layout.specs.Bytes.{fourBytes}
 use Rattle.machines.specs.Machine.{Machine}
-use Rattle.table.specs.Bytes.{pairBytes, entryOf, rowBytes}
+use Rattle.table.specs.Bytes.{pairBytes, entryOf, rowBytes, headThen}
 use Rattle.table.proofs.Bytes.{length-rows}
-use Rattle.builder.specs.Rows.{headThen}
-
-pub four-stores : (l : List ℕ) (at a b c d : ℕ) → at + 4 ≤ length l → set (set (set (set l at a) (at + 1) b) (at + 2) c) (at + 3) d ≡ take at l ++ (a ∷ b ∷ c ∷ d ∷ drop (at + 4) l)
-four-stores l at a b c d h =
-    let p : at + 2 ≡ suc (suc at) = omega arith in
-    let q : at + 3 ≡ suc (suc (suc at)) = omega arith in
-    ap (λ k. set (set (set (set l at a) k b) (at + 2) c) (at + 3) d) (add-one at)
-    ∙ ap₂ (λ j k. set (set (set (set l at a) (suc at) b) j c) k d) p q
-    ∙ sets-eq (a ∷ b ∷ c ∷ d ∷ []) l at h
-    ∙ append-assoc (take at l) (a ∷ b ∷ c ∷ d ∷ []) (drop (at + 4) l)
 
 -- the bytes of state s's row
 abbrev pub rowOf : Machine → ℕ → List ℕ
@@ -55,6 +46,12 @@ row-more m d out i fits e =
     ∙ append-assoc (take 7 d) (rowBytes m 0 i) (r ++ drop (at + 4) d)
     ∙ ap (λ y. take 7 d ++ y) (sym (append-assoc (rowBytes m 0 i) r (drop (at + 4) d)))
     ∙ ap₂ (λ x k. take 7 d ++ (x ++ drop k d)) (ap (λ k. rowBytes m 0 i ++ rowOf m k) (sym z) ∙ sym (rows-more m 0 i) ∙ ap (rowBytes m 0) (sym (add-one i))) n
+
+-- the rest of the head, after its length field
+pub head-stores : (n : ℕ) (out : List ℕ) → 7 ≤ length out → set (set (set (fourBytes (3 + 4 * n) ++ drop 4 out) 4 1) 5 (n / 256)) 6 (n % 256) ≡ headThen n (drop 7 out)
+head-stores n out h =
+    ap (λ z. fourBytes (3 + 4 * n) ++ z)
+    (sets-eq (1 ∷ pairBytes n []) (drop 4 out) 0 (simp length-drop (omega arith)) ∙ ap (λ z. 1 ∷ pairBytes n z) (drop-drop 3 4 out))
 
 -- the head, then the rows, then the buffer as it was
 pub head-and-rows : (n k : ℕ) (out rows : List ℕ) → take 7 (headThen n (drop 7 out)) ++ (rows ++ drop (7 + k) (headThen n (drop 7 out))) ≡ headThen n rows ++ drop (7 + k) out

@@ -3,8 +3,9 @@ use mathlib.Core.Path.{_≡_}
 use mathlib.Core.List.{List, [], _∷_, _++_}
 use Prim.Native.Nat.{ℕ, _≤_, _<_}
 use lib.Dec.{ltb}
-use lib.ListN.{length, getD, drop}
+use lib.ListN.{length, getD}
 use Rattle.layout.specs.Refusal.{Row, row, Tested, passed, refused, first}
+use Rattle.layout.specs.Write.{roomRow, lengthWhen, bufferWhen}
 use Rattle.machines.specs.Machine.{Machine}
 use Rattle.machines.specs.Canonical.{Canonical}
 use Rattle.meaning.specs.Sets.{KeptBy}
@@ -19,14 +20,11 @@ use Rattle.builder.specs.declared.BuildAnswer.the-variants.{Built, Refus
 abbrev pub areaRow : List ℕ → Row
 areaRow work = row 8 (ltb (length work) areaSize) 0
 
--- RULES, Refusals, 9: "the buffer is too short for what must be written: 7+4n bytes of a table", with 7+4n
-abbrev pub roomRow : List ℕ → (size : ℕ) → Row
-roomRow table size = row 9 (ltb (length table) size) size
-
 -- what is tested before the work area is used
 abbrev pub earlyRows : (widest : ℕ) → (set work : List ℕ) → List Row
 earlyRows widest set work = setRows widest set ++ areaRow work ∷ []
 
+-- and then 9 with 7+4n
 abbrev pub buildRows : (widest : ℕ) → (set work table : List ℕ) → (size : ℕ) → List Row
 buildRows widest set work table size = earlyRows widest set work ++ roomRow table size ∷ []
 
@@ -38,10 +36,6 @@ says (Refused number at) = refused number at
 abbrev pub lengthOf : BuildAnswer → ℕ
 lengthOf (Built n) = n
 lengthOf (Refused number at) = 0
-
-abbrev pub lengthWhen : Tested → ℕ → ℕ
-lengthWhen passed size = size
-lengthWhen (refused number at) size = 0
 
 -- RULES, What a refusal leaves: "A builder that is past 8, refused by none of 1 to 8, gives the first 8,192 entries of the work area back as zeros"; "nothing is ever written to the entries of the work area after those 8,192".
 pub record Cleared (w w′ : List ℕ) : Type 0 where
@@ -55,8 +49,7 @@ WorkAfter (refused number at) w w′ = w′ ≡ w
 
 -- the table and then the buffer as it was, or nothing written
 abbrev pub tableWhen : Tested → Machine → List ℕ → List ℕ
-tableWhen passed m table = bytesOf m ++ drop (sizeOf (m .states)) table
-tableWhen (refused number at) m table = table
+tableWhen t m table = bufferWhen t (sizeOf (m .states)) (bytesOf m) table
 
 -- the result, by a machine that is the canonical one of the set where the builder gets past 8
 pub record BuiltWith (widest : ℕ) (set work work′ table table′ : List ℕ) (r : BuildAnswer) (m : Machine) : Type 0 where

@@ -1,18 +1,11 @@
--- What the writer of the table asks of a numbered work area, with n histories, and the head that it writes.
+-- What the writer of the table asks of a numbered work area, with n histories.
 use mathlib.Core.Path.{_≡_}
 use mathlib.Core.Bool.{true, false}
-use mathlib.Core.List.{List, _∷_}
-use Prim.Native.Nat.{ℕ, _+_, _*_, _/_, _%_, _≤_, _<_}
+use mathlib.Core.List.{List}
+use Prim.Native.Nat.{ℕ, _≤_, _<_}
 use lib.ListN.{length}
-use Rattle.table.specs.Bytes.{pairBytes}
 use Rattle.classes.specs.Area.{region, areaSize, classAt, mayAt}
 use Rattle.numbering.specs.Numbered.{classOf, numberAfter}
-
--- the first seven bytes of a table of n states, and what follows them
-abbrev pub headThen : ℕ → List ℕ → List ℕ
-headThen n rest =
-    (3 + 4 * n) / 16777216 ∷ (3 + 4 * n) / 65536 % 256 ∷ (3 + 4 * n) / 256 % 256 ∷ (3 + 4 * n) % 256
-    ∷ 1 ∷ pairBytes n rest
 
 -- the histories have classes among them, and the area has room
 pub record Entries (n : ℕ) (w : List ℕ) : Type 0 where

@@ -3,6 +3,7 @@ use mathlib.Core.Path.{_≡_}
 use mathlib.Core.List.{List, [], _∷_}
 use Prim.Native.Nat.{ℕ, suc, _-_, _^_, _≤_}
 use Rattle.layout.specs.Refusal.{first}
+use Rattle.layout.specs.Write.{roomRow, lengthWhen}
 use Rattle.machines.specs.Machine.{Machine}
 use Rattle.machines.specs.Canonical.{Canonical}
 use Rattle.meaning.specs.declared.LimitSet.{LimitSet}
@@ -13,7 +14,7 @@ use Rattle.classes.specs.Area.{region, Within}
 use Rattle.numbering.specs.Numbered.{numberedMachine}
 use Rattle.builder.specs.declared.BuildAnswer.{BuildAnswer}
 use Rattle.builder.specs.Rows.{Writable}
-use Rattle.builder.specs.Build.{roomRow, says, lengthOf, lengthWhen, Cleared, tableWhen}
+use Rattle.builder.specs.Build.{says, lengthOf, Cleared, tableWhen}
 
 -- histories of m outcomes are long enough for every limit of the set
 pub record Reaches (s : LimitSet) (m : ℕ) : Type 0 where

@@ -6,8 +6,8 @@ ghost use Prim.Native.Nat.{_+_, _-_, _*_, _≤_, _<_};
 ghost use lib.ListN.{length, take, drop};
 ghost use Rattle.classes.specs.Area.{mayAt};
 ghost use Rattle.numbering.specs.Numbered.{numberAfter, numberedMachine};
-ghost use Rattle.table.specs.Bytes.{pairBytes, rowBytes, bytesOf, sizeOf, noMiss};
-ghost use Rattle.builder.specs.Rows.{headThen, Entries, Writable};
+ghost use Rattle.table.specs.Bytes.{pairBytes, rowBytes, headThen, bytesOf, sizeOf, noMiss};
+ghost use Rattle.builder.specs.Rows.{Entries, Writable};
 use classes::MAY_MISS;
 use numbering::NUMBERS;
 use numbering::ORDER;
@@ -28,11 +28,7 @@ fn put_head(out: &mut [u8], n: usize)
     requires { ⌜ (7 ≤ length (now out)) × (n < 65536) ⌝ }
     ensures { λ _. ⌜ now (out .exit) ≡ headThen n (drop 7 (now (out .entry))) ⌝ }
 {
-    let rest = 3 + 4 * n;
-    out[0] = (rest / 16777216) as u8;
-    out[1] = (rest / 65536 % 256) as u8;
-    out[2] = (rest / 256 % 256) as u8;
-    out[3] = (rest % 256) as u8;
+    layout::put_four(out, 0, 3 + 4 * n);
     out[4] = 1;
     out[5] = (n / 256) as u8;
     out[6] = (n % 256) as u8;

@@ -5,7 +5,10 @@ use mathlib.Core.List.{List, [], _∷_}
 use Prim.Native.Nat.{ℕ}
 use native.Mathlib.Omega.{arith}
 use Rattle.layout.specs.Refusal.{Row, Tested, passed, refused, first}
-use Rattle.layout.proofs.Rows.{Numbers, from-to, first-number, passed-not-refused, and-then, first-append}
+use Rattle.layout.specs.declared.WriteAnswer.{WriteAnswer}
+use Rattle.layout.specs.declared.WriteAnswer.the-variants as write
+use Rattle.layout.specs.Write.{roomRow, says as write-says}
+use Rattle.layout.proofs.Rows.{Numbers, from-to, first-number, passed-not-refused, refused-before}
 use Rattle.machines.specs.Machine.{Machine}
 use Rattle.machines.specs.Canonical.{Canonical}
 use Rattle.machines.proofs.Unique.{canonical-unique}
@@ -14,9 +17,6 @@ use Rattle.sets.specs.Bytes.{setOf}
 use Rattle.sets.specs.declared.SetAnswer.{SetAnswer}
 use Rattle.sets.specs.declared.SetAnswer.the-variants as read
 use Rattle.sets.specs.Read.{says as read-says}
-use Rattle.sets.specs.declared.SetWritten.{SetWritten}
-use Rattle.sets.specs.declared.SetWritten.the-variants as write
-use Rattle.sets.specs.Write.{says as write-says}
 use Rattle.verdict.specs.declared.Judgement.{Judgement}
 use Rattle.verdict.specs.declared.Judgement.the-variants as judge
 use Rattle.verdict.specs.Judge.{says as judge-says}
@@ -29,7 +29,7 @@ use Rattle.table.specs.declared.TableAnswer.the-variants as check
 use Rattle.table.specs.Check.{says as check-says}
 use Rattle.builder.specs.declared.BuildAnswer.{BuildAnswer}
 use Rattle.builder.specs.declared.BuildAnswer.the-variants as build
-use Rattle.builder.specs.Build.{roomRow, earlyRows, buildRows, says as build-says}
+use Rattle.builder.specs.Build.{earlyRows, buildRows, says as build-says}
 use Rattle.guard.specs.declared.StartAnswer.{StartAnswer}
 use Rattle.guard.specs.declared.StartAnswer.the-variants as start
 use Rattle.guard.specs.declared.AskAnswer.{AskAnswer}
@@ -48,10 +48,10 @@ module _ (Number : ℕ → Type 0) (rows : List Row) where
       known read.Accepted n v e = absurd (passed-not-refused e)
       known (read.Refused k u) n v e = cc
 
-  pub by-written : (r : SetWritten) → Numbers Number rows → write-says r ≡ first rows → Refuses write.Refused Number (first rows) r
+  pub by-written : (r : WriteAnswer) → Numbers Number rows → write-says r ≡ first rows → Refuses write.Refused Number (first rows) r
   by-written r = refuses write-says write.Refused Number rows r (λ n v. refl) (known r)
     where
-      known : (r : SetWritten) (n v : ℕ) → write-says r ≡ refused n v → r ≡ write.Refused n v
+      known : (r : WriteAnswer) (n v : ℕ) → write-says r ≡ refused n v → r ≡ write.Refused n v
       known (write.Written k) n v e = absurd (passed-not-refused e)
       known (write.Refused k u) n v e = cc
 
@@ -134,16 +134,13 @@ pub one-size : (w : ℕ) (set work table : List ℕ) (m n : Machine)
     → first (buildRows w set work table (sizeOf (m .states))) ≡ first (buildRows w set work table (sizeOf (n .states)))
 one-size w set work table m n cm cn = go (first (earlyRows w set work)) refl
   where
-    rows : (size : ℕ) → first (buildRows w set work table size) ≡ and-then (first (earlyRows w set work)) (first (roomRow table size ∷ []))
-    rows size = first-append (earlyRows w set work) (roomRow table size ∷ [])
-
     go : (t : Tested) → first (earlyRows w set work) ≡ t → first (buildRows w set work table (sizeOf (m .states))) ≡ first (buildRows w set work table (sizeOf (n .states)))
     go passed e =
         let o = canonical-unique m n (KeptBy (setOf set)) (KeptBy (setOf set)) (cm e) (cn e) (λ p. (λ k. k, λ k. k)) in
         ap (λ z. first (buildRows w set work table (sizeOf z))) (o .states)
     go (refused k u) e =
-        rows (sizeOf (m .states)) ∙ ap (λ t. and-then t (first (roomRow table (sizeOf (m .states)) ∷ []))) e
-        ∙ sym (rows (sizeOf (n .states)) ∙ ap (λ t. and-then t (first (roomRow table (sizeOf (n .states)) ∷ []))) e)
+        refused-before (earlyRows w set work) (roomRow table (sizeOf (m .states)) ∷ []) e
+        ∙ sym (refused-before (earlyRows w set work) (roomRow table (sizeOf (n .states)) ∷ []) e)
 
 pub both-accepted : (s t : Tested) → in-turn s t ≡ both-passed → (s ≡ passed) × (t ≡ passed)
 both-accepted (refused k u) t e = absurd (both-not-one (sym e))

@@ -5,7 +5,10 @@ use mathlib.Core.Logic.{_↔_}
 use mathlib.Core.List.{List}
 use Prim.Native.Nat.{ℕ, _≤_}
 use Rattle.layout.specs.Refusal.{passed, refused, first}
+use Rattle.layout.specs.declared.WriteAnswer.{WriteAnswer}
+use Rattle.layout.specs.declared.WriteAnswer.the-variants as write
 use Rattle.layout.proofs.Rows.{from-to}
+use Rattle.layout.proofs.Write.{refused-leaves-buffer}
 use Rattle.patterns.specs.Outcome.{outcome}
 use Rattle.machines.specs.Machine.{Machine}
 use Rattle.machines.specs.Canonical.{Canonical}
@@ -15,11 +18,9 @@ use Rattle.meaning.specs.Sets.{KeptBy}
 use Rattle.sets.specs.Bytes.{setOf}
 use Rattle.sets.specs.Rows.{setRows}
 use Rattle.sets.specs.declared.SetRead.{SetRead}
-use Rattle.sets.specs.declared.SetWritten.{SetWritten}
 use Rattle.sets.specs.declared.SetAnswer.the-variants as read
-use Rattle.sets.specs.declared.SetWritten.the-variants as write
 use Rattle.sets.specs.Read.{ReadAs}
-use Rattle.sets.specs.Write.{writeRows, bufferWhen, WrittenAs}
+use Rattle.sets.specs.Write.{writeRows, WrittenAs}
 use Rattle.sets.proofs.Numbers.{set-numbers}
 use Rattle.verdict.specs.declared.Judgement.{Judgement}
 use Rattle.verdict.specs.declared.Judgement.the-variants as judge
@@ -59,12 +60,12 @@ pub read-refuses : (b : List ℕ) (r : SetRead) → ReadAs longest b r → Refus
 read-refuses b r read = by-set (from-to 1 7) (setRows longest b) (r .answer) (set-numbers longest b) (read .answer)
 
 -- Writing one.
-module _ (s : LimitSet) (out out′ : List ℕ) (r : SetWritten) (written : WrittenAs longest s out out′ r) where
+module _ (s : LimitSet) (out out′ : List ℕ) (r : WriteAnswer) (written : WrittenAs longest s out out′ r) where
   pub write-refuses : Refuses write.Refused WriteNumber (first (writeRows longest s out)) r
   write-refuses = by-written WriteNumber (writeRows longest s out) r (write-numbers longest s out) (written .answer)
 
   pub refused-write-leaves-buffer : (n v : ℕ) → r ≡ write.Refused n v → out′ ≡ out
-  refused-write-leaves-buffer n v e = written .buffer ∙ ap (λ t. bufferWhen t s out) (write-refuses .exactly n v .0 e)
+  refused-write-leaves-buffer n v e = refused-leaves-buffer written (write-refuses .exactly n v .0 e)
 
 -- The verdict.
 pub judge-refuses : (b p : List ℕ) (r : Judgement) → JudgedAs longest b p r → Refuses judge.Refused JudgeNumber (first (judgeRows longest b p)) r

@@ -6,15 +6,15 @@ use mathlib.Core.List.{List}
 use Prim.Native.Nat.{ℕ, _≤_}
 use native.Mathlib.Omega.{arith}
 use Rattle.layout.specs.Refusal.{Row, Tested, first}
+use Rattle.layout.specs.declared.WriteAnswer.{WriteAnswer}
+use Rattle.layout.specs.declared.WriteAnswer.the-variants as write
+use Rattle.layout.specs.Write.{says as write-says}
 use Rattle.layout.proofs.Rows.{Numbers}
 use Rattle.meaning.specs.declared.LimitSet.{LimitSet}
 use Rattle.sets.specs.declared.SetRead.{SetRead}
 use Rattle.sets.specs.declared.SetAnswer.{SetAnswer}
 use Rattle.sets.specs.declared.SetAnswer.the-variants as read
 use Rattle.sets.specs.Read.{says as read-says}
-use Rattle.sets.specs.declared.SetWritten.{SetWritten}
-use Rattle.sets.specs.declared.SetWritten.the-variants as write
-use Rattle.sets.specs.Write.{says as write-says}
 use Rattle.verdict.specs.declared.Judgement.{Judgement}
 use Rattle.verdict.specs.declared.Judgement.the-variants as judge
 use Rattle.verdict.specs.Judge.{says as judge-says}
@@ -51,7 +51,7 @@ set-opens a = go (a .answer)
     go read.Accepted = (refl, refl)
     go (read.Refused n v) = (refl, refl)
 
-pub written-opens : (a : SetWritten) → Opens (write-says a) (flatWritten a .refused) (flatWritten a .at)
+pub written-opens : (a : WriteAnswer) → Opens (write-says a) (flatWritten a .refused) (flatWritten a .at)
 written-opens (write.Written n) = (refl, refl)
 written-opens (write.Refused n v) = (refl, refl)
 

@@ -6,6 +6,7 @@ use Prim.Native.Nat.{ℕ, zero, suc}
 use native.Mathlib.Omega.{arith}
 use lib.Dec.{leb, ltb}
 use Rattle.layout.specs.Refusal.{row}
+use Rattle.layout.specs.Write.{roomRow}
 use Rattle.layout.proofs.Rows.{Numbers, from-to, numbers-append, numbers-among}
 use Rattle.patterns.specs.Outcome.{outcomeRows}
 use Rattle.meaning.specs.declared.LimitSet.{LimitSet}
@@ -25,7 +26,7 @@ WriteNumber n = MemoryNumber n ⊎ (n ≡ 9)
 
 pub write-numbers : (w : ℕ) (s : LimitSet) (out : List ℕ) → Numbers WriteNumber (writeRows w s out)
 write-numbers w s out =
-    numbers-append WriteNumber (memoryRows w s) (row 9 _ (sizeOf s) ∷ [])
+    numbers-append WriteNumber (memoryRows w s) (roomRow out (sizeOf s) ∷ [])
     (numbers-among MemoryNumber WriteNumber (λ n h. inl h) (memoryRows w s) (memory-numbers w s)) (inr refl, tt)
 
 -- the verdict: 1 to 7, 13

@@ -1,10 +1,10 @@
 -- Each answer as a flat record. It begins with `refused`, 0 or the number of RULES, Refusals, and `at`, the value beside that number, else 0.
 use mathlib.Core.Path.{_≡_}
+use Rattle.layout.specs.declared.WriteAnswer.{WriteAnswer}
+use Rattle.layout.specs.declared.WriteAnswer.the-variants as written
 use Rattle.sets.specs.declared.SetAnswer.{SetAnswer}
 use Rattle.sets.specs.declared.SetAnswer.the-variants as set
 use Rattle.sets.specs.declared.SetRead.{SetRead}
-use Rattle.sets.specs.declared.SetWritten.{SetWritten}
-use Rattle.sets.specs.declared.SetWritten.the-variants as written
 use Rattle.verdict.specs.declared.Judgement.{Judgement}
 use Rattle.verdict.specs.declared.Judgement.the-variants as verdict
 use Rattle.compare.specs.declared.CompareAnswer.{CompareAnswer}
@@ -48,7 +48,7 @@ flatSetOf (set.Refused number at) s = record { refused = number; at = at; set = 
 abbrev pub flatSet : SetRead → FloeSetRead
 flatSet a = flatSetOf (a .answer) (a .set)
 
-abbrev pub flatWritten : SetWritten → FloeWritten
+abbrev pub flatWritten : WriteAnswer → FloeWritten
 flatWritten (written.Written length) = record { refused = 0; at = 0; length = length }
 flatWritten (written.Refused number at) = record { refused = number; at = at; length = 0 }
 

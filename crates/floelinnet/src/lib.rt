@@ -131,12 +131,12 @@ pub extern "C" fn floe_write_set(set: LimitSet, bytes: &mut [u8]) -> FloeWritten
     ensures { λ r. ⌜ FlatAnswer (WrittenAs longest set (now (bytes .entry)) (now (bytes .exit))) flatWritten r ⌝ }
 {
     match sets::write_set(set, bytes) {
-        sets::SetWritten::Written(size) => FloeWritten {
+        layout::WriteAnswer::Written(size) => FloeWritten {
             refused: 0,
             at: 0,
             length: size as u64,
         },
-        sets::SetWritten::Refused { number, at } => FloeWritten {
+        layout::WriteAnswer::Refused { number, at } => FloeWritten {
             refused: number as u64,
             at: at as u64,
             length: 0,

@@ -12,8 +12,7 @@ use lib.Dec.{ltb}
 use Rattle.table.specs.Shared.{row, passed, refused, first, outcome, Machine, WellMade}
 use Rattle.table.specs.Bytes.{stateCount, machineOf}
 use Rattle.table.specs.Rows.{tableRows, lookRows}
-use Rattle.table.proofs.Shared.{first-here, first-skip}
-use Rattle.table.proofs.Turns.{passed-before}
+use Rattle.table.proofs.Shared.{first-here, first-skip, passed-before}
 use Rattle.table.proofs.Checked.{checked-looks, checked-well-made}
 use Rattle.guard.specs.declared.Guard.{Guard}
 use Rattle.guard.specs.declared.Asked.{Asked}

@@ -1,16 +1,14 @@
--- What the head of a layout says, case by case, and what it holds where both its rows are passed. Assumes nothing.
-use mathlib.Core.Path.{_≡_, refl, sym, ap, _∙_}
-use mathlib.Core.Bool.{true, false, not, _||_}
-use mathlib.Core.List.{List, [], _∷_}
+-- What the head of a layout says, case by case, what it holds where both its rows are passed, and what a fault that was found as a number decides. Assumes nothing.
+use mathlib.Core.Path.{_≡_, refl, ap, _∙_}
+use mathlib.Core.List.{List, _++_}
 use Prim.Native.Nat.{ℕ, zero, suc, _-_, _≤_, _<_}
 use native.Mathlib.Omega.{arith}
 use borrow.Author.Tests.{le-ltb, lt-ltb, eq-eqb, ne-eqb, ltb-false, eqb-true, not-false}
-use lib.Dec.{eqb, ltb}
 use lib.ListN.{length}
 use Rattle.layout.specs.Bytes.{lengthField, version}
-use Rattle.layout.specs.Refusal.{passed, refused, first}
+use Rattle.layout.specs.Refusal.{Row, passed, refused, first}
 use Rattle.layout.specs.Head.{headRows, faultRow}
-use Rattle.layout.proofs.Rows.{passed-first, passed-not-refused, or-none}
+use Rattle.layout.proofs.Rows.{passed-first, refused-before, passed-before, or-none}
 
 -- a number that isn't 0 is a refusal, and 0 is none
 pub some-fault : (n at : ℕ) → 1 ≤ n → faultRow n at ≡ refused n at
@@ -19,6 +17,14 @@ some-fault (suc n) at h = refl
 
 pub no-fault : (n at : ℕ) → n ≡ 0 → faultRow n at ≡ passed
 no-fault n at e = ap (λ z. faultRow z at) e
+
+-- rows whose fault was found as a number, and rows that come after them
+module _ (a b : List Row) (n at : ℕ) (e : first a ≡ faultRow n at) where
+  pub fault-before : (n ≡ 0 → ⊥) → first (a ++ b) ≡ refused n at
+  fault-before h = refused-before a b (e ∙ some-fault n at (omega arith))
+
+  pub no-fault-before : n ≡ 0 → first (a ++ b) ≡ first b
+  no-fault-before h = passed-before a b (e ∙ no-fault n at h)
 
 module _ (least wrong other : ℕ) (b : List ℕ) where
   pub head-short : length b < least → first (headRows least wrong other b) ≡ refused wrong 0

@@ -2,8 +2,10 @@
 use mathlib.Core.Path.{_≡_, refl, sym, ap, _∙_, subst}
 use mathlib.Core.Bool.{Bool, true, false, cond, _||_, true≢false}
 use mathlib.Core.List.{List, [], _∷_, _++_}
-use Prim.Native.Nat.{ℕ, _≤_}
+use Prim.Native.Nat.{ℕ, _≤_, _<_}
 use native.Mathlib.Omega.{arith}
+use borrow.Author.Tests.{lt-ltb, le-ltb}
+use lib.Dec.{ltb}
 use Rattle.layout.specs.Refusal.{Row, row, Tested, passed, refused, first}
 
 -- a first answer, and where it is passed a second
@@ -18,6 +20,14 @@ first-here n v h rows e = rw e
 pub first-skip : (n v : ℕ) (h : Bool) (rows : List Row) → h ≡ false → first (row n h v ∷ rows) ≡ first rows
 unfolding first
 first-skip n v h rows e = rw e
+
+-- one row, and no other, that asks for a length
+pub too-short : (number at has needs : ℕ) → has < needs → first (row number (ltb has needs) at ∷ []) ≡ refused number at
+too-short number at has needs h = first-here number at _ [] (lt-ltb has needs h)
+
+pub long-enough : (number at has needs : ℕ) → needs ≤ has → first (row number (ltb has needs) at ∷ []) ≡ passed
+unfolding first
+long-enough number at has needs h = first-skip number at _ [] (le-ltb has needs h)
 
 pub passed-not-refused : {n v : ℕ} → passed ≡ refused n v → ⊥
 passed-not-refused e = let z : _≡_ {A = ℕ} 0 1 = cc in omega arith
@@ -40,6 +50,14 @@ first-append (r ∷ a) b = go (r .holds) (first-append a b)
     go : (h : Bool) → first (a ++ b) ≡ and-then (first a) (first b) → cond h (refused (r .number) (r .at)) (first (a ++ b)) ≡ and-then (cond h (refused (r .number) (r .at)) (first a)) (first b)
     go true e = refl
     go false e = e
+
+-- what decides a first part decides all, and where it is passed the second part does
+module _ (a b : List Row) where
+  pub refused-before : {number at : ℕ} → first a ≡ refused number at → first (a ++ b) ≡ refused number at
+  refused-before e = first-append a b ∙ ap (λ t. and-then t (first b)) e
+
+  pub passed-before : first a ≡ passed → first (a ++ b) ≡ first b
+  passed-before e = first-append a b ∙ ap (λ t. and-then t (first b)) e
 
 pub both-passed : (a b : List Row) → first (a ++ b) ≡ passed → (first a ≡ passed) × (first b ≡ passed)
 both-passed a b e = go (first a) refl (sym (first-append a b) ∙ e)

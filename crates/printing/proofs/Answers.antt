@@ -8,6 +8,7 @@ use borrow.Author.Tests.{lt-ltb, le-ltb}
 use lib.Dec.{ltb}
 use lib.ListN.{length, take, length-take}
 use Rattle.layout.specs.Refusal.{Row, refused, first}
+use Rattle.layout.specs.Write.{lengthWhen}
 use Rattle.layout.proofs.Rows.{first-here, first-skip, passed-not-refused}
 use Rattle.machines.specs.Machine.{Machine}
 use Rattle.meaning.specs.Longest.{longest}
@@ -16,7 +17,7 @@ use Rattle.table.specs.Rows.{tableRows}
 use Rattle.table.proofs.Bytes.{bytes-length}
 use Rattle.builder.specs.declared.BuildAnswer.{BuildAnswer}
 use Rattle.builder.specs.declared.BuildAnswer.the-variants.{Built, Refused}
-use Rattle.builder.specs.Build.{earlyRows, buildRows, says, lengthWhen, WorkAfter, tableWhen, BuiltWith, BuiltAs}
+use Rattle.builder.specs.Build.{earlyRows, buildRows, says, WorkAfter, tableWhen, BuiltWith, BuiltAs}
 use Rattle.builder.proofs.BuiltTables.{built-bytes, built-checked, built-one-table}
 use Rattle.printing.specs.Text.{refusalText, textWhen}
 use Rattle.printing.specs.Cut.{held, cut, Holds}

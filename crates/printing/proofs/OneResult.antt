@@ -3,6 +3,7 @@ use mathlib.Core.Path.{_≡_, refl, sym, ap, _∙_, subst}
 use mathlib.Core.List.{List, [], _∷_}
 use Prim.Native.Nat.{ℕ}
 use Rattle.layout.specs.Refusal.{Row, Tested, passed, refused, first}
+use Rattle.layout.specs.Write.{roomRow, lengthWhen}
 use Rattle.layout.proofs.Rows.{and-then, first-append, first-skip, passed-first, both-passed}
 use Rattle.machines.specs.Machine.{Machine}
 use Rattle.machines.specs.Canonical.{Canonical, OneTable}
@@ -12,7 +13,7 @@ use Rattle.sets.specs.Bytes.{setOf}
 use Rattle.table.specs.Bytes.{sizeOf}
 use Rattle.builder.specs.declared.BuildAnswer.{BuildAnswer}
 use Rattle.builder.specs.declared.BuildAnswer.the-variants.{Built, Refused}
-use Rattle.builder.specs.Build.{earlyRows, buildRows, roomRow, says, lengthOf, lengthWhen, WorkAfter, tableWhen, BuiltAs}
+use Rattle.builder.specs.Build.{earlyRows, buildRows, says, lengthOf, WorkAfter, tableWhen, BuiltAs}
 use Rattle.builder.proofs.OneResult.{built-one-result}
 use Rattle.printing.specs.Text.{textWhen}
 use Rattle.printing.specs.Cut.{held, cut, Adds}

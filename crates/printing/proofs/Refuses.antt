@@ -6,6 +6,7 @@ use Prim.Native.Nat.{ℕ, _≤_}
 use native.Mathlib.Omega.{arith}
 use lib.ListN.{length, take}
 use Rattle.layout.specs.Refusal.{Row, passed, refused, first}
+use Rattle.layout.specs.Write.{roomRow}
 use Rattle.layout.proofs.Rows.{Numbers, from-to, first-number}
 use Rattle.machines.specs.Machine.{Machine}
 use Rattle.machines.specs.Canonical.{Canonical}
@@ -13,7 +14,7 @@ use Rattle.meaning.specs.Longest.{longest}
 use Rattle.meaning.specs.Sets.{KeptBy}
 use Rattle.sets.specs.Bytes.{setOf}
 use Rattle.table.specs.Bytes.{sizeOf}
-use Rattle.builder.specs.Build.{roomRow, earlyRows, buildRows, Cleared, tableWhen}
+use Rattle.builder.specs.Build.{earlyRows, buildRows, Cleared, tableWhen}
 use Rattle.builder.proofs.Numbers.{early-numbers, room-numbers, work-by-number}
 use Rattle.printing.specs.Text.{refusalText}
 use Rattle.printing.specs.Print.{longestText, inputRow, printEarly, printTests, PrintedAs}

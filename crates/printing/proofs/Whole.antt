@@ -11,6 +11,7 @@ use native.Mathlib.Omega.{arith}
 use lib.ListN.{length, take, drop, length-append}
 use lib.Seq.{take-all, take-at}
 use Rattle.layout.specs.Refusal.{Row, Tested, passed, refused, first}
+use Rattle.layout.specs.Write.{roomRow}
 use Rattle.layout.proofs.Rows.{and-then, first-append, passed-first, both-passed}
 use Rattle.machines.specs.Machine.{Machine}
 use Rattle.meaning.specs.declared.LimitSet.{LimitSet}
@@ -20,7 +21,7 @@ use Rattle.sets.specs.Rows.{limitsRows, headRows, setRows}
 use Rattle.sets.proofs.Accepted.{passed-head, accepted-allowed}
 use Rattle.table.specs.Bytes.{sizeOf}
 use Rattle.table.specs.Writable.{Writable}
-use Rattle.builder.specs.Build.{areaRow, roomRow, earlyRows}
+use Rattle.builder.specs.Build.{areaRow, earlyRows}
 use Rattle.builder.proofs.BuiltTables.{canonical-writable}
 use Rattle.printing.specs.Text.{digit, decimalIn, decimal, moveText, stateLine, stateLines, tableText, refusalText, textWhen}
 use Rattle.printing.specs.Print.{longestText, inputRow, printEarly, printTests, textFor, PrintedWith}

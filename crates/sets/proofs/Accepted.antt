@@ -11,6 +11,8 @@ use lib.Dec.{eqb, ltb}
 use lib.ListN.{length}
 use Rattle.layout.specs.Bytes.{lengthField, version}
 use Rattle.layout.specs.Refusal.{passed, first}
+use Rattle.layout.specs.Head.{headRows as openingRows}
+use Rattle.layout.proofs.Head.{head-passed as head-says}
 use Rattle.layout.proofs.Rows.{and-then, passed-first, first-append, both-passed, or-none}
 use Rattle.meaning.specs.declared.Limit.{Limit}
 use Rattle.meaning.specs.declared.LimitSet.{LimitSet}
@@ -104,16 +106,13 @@ pub record Head (b : List ℕ) : Type 0 where
 
 pub passed-head : (b : List ℕ) → first (headRows b) ≡ passed → Head b
 passed-head b e =
-    let (a₁, e₁) = passed-first _ _ e in
-    let (a₂, e₂) = passed-first _ _ e₁ in
-    let (a₃, e₃) = passed-first _ _ e₂ in
+    let (p, q) = both-passed (openingRows 6 1 2 b) _ e in
+    let (n, m, v) = head-says 6 1 2 b p in
+    let (a₃, e₃) = passed-first _ _ q in
     let (a₄, e₄) = passed-first _ _ e₃ in
-    let (f, g) = or-none _ _ a₁ in
-    let n = ltb-false (length b) 6 f in
-    let m = eqb-true (lengthField b) (length b - 4) (not-false _ g) in
     let r = eqb-true (lengthField b) (2 + 3 * countOf b) (not-false _ a₄) in
     let (s, t) = count-within (countOf b) a₃ in
-    record { whole = omega arith; rest = r; one = eqb-true (version b) 1 (not-false _ a₂); some = s; eight = t }
+    record { whole = omega arith; rest = r; one = v; some = s; eight = t }
 
 head-passed : (b : List ℕ) → Head b → first (headRows b) ≡ passed
 unfolding first

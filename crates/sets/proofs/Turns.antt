@@ -6,34 +6,29 @@ use native.Mathlib.Numerals.{add-one}
 use native.Mathlib.Omega.{arith}
 use lib.ListN.{length, replicate, set, take, drop, length-append, take-append-drop}
 use lib.Seq.{set-at, length-take-le}
-use Rattle.layout.specs.Refusal.{Tested, passed, refused, first}
-use Rattle.layout.proofs.Rows.{and-then, first-append}
+use Rattle.layout.specs.Refusal.{Row, passed, refused, first}
+use Rattle.layout.specs.Head.{faultRow}
+use Rattle.layout.proofs.Head.{fault-before, no-fault-before}
 use Rattle.layout.proofs.Runs.{one-more, put-next}
 use Rattle.meaning.specs.declared.LimitSet.{LimitSet}
 use Rattle.meaning.specs.Sets.{zeroLimit, limitAt}
 use Rattle.sets.specs.Bytes.{limitIn, limitsIn, setWith, bytesOfLimit, limitBytes}
-use Rattle.sets.specs.Rows.{limitRows, limitsRows, faultRow}
-
-fault-found : (n i : ℕ) → (n ≡ 0 → ⊥) → faultRow n i ≡ refused n i
-fault-found zero i h = absurd (h refl)
-fault-found (suc n) i h = refl
+use Rattle.sets.specs.Rows.{limitRows, limitsRows}
 
 module _ (w : ℕ) (s : LimitSet) (i c : ℕ) where
-  abbrev later : Tested
-  later = first (limitsRows w s (i + 1) (c - (i + 1)))
+  abbrev later : List Row
+  later = limitsRows w s (i + 1) (c - (i + 1))
 
-  limits-turn : i < c → first (limitsRows w s i (c - i)) ≡ and-then (first (limitRows w (limitAt s i) i)) later
+  limits-turn : i < c → limitsRows w s i (c - i) ≡ limitRows w (limitAt s i) i ++ later
   unfolding limitsRows
-  limits-turn h =
-      let g : c - i ≡ suc (c - (i + 1)) = omega arith in
-      rw (g, add-one) (first-append (limitRows w (limitAt s i) i) (limitsRows w s (suc i) (c - suc i)))
+  limits-turn h = let g : c - i ≡ suc (c - (i + 1)) = omega arith in rw (g, add-one i)
 
   module _ (n : ℕ) (h : i < c) (e : first (limitRows w (limitAt s i) i) ≡ faultRow n i) where
     pub limits-faulty : (n ≡ 0 → ⊥) → first (limitsRows w s i (c - i)) ≡ refused n i
-    limits-faulty f = limits-turn h ∙ ap (λ t. and-then t later) (e ∙ fault-found n i f)
+    limits-faulty f = ap first (limits-turn h) ∙ fault-before _ later n i e f
 
-    pub limits-faultless : n ≡ 0 → first (limitsRows w s i (c - i)) ≡ later
-    limits-faultless f = limits-turn h ∙ ap (λ t. and-then t later) (e ∙ ap (λ z. faultRow z i) f)
+    pub limits-faultless : n ≡ 0 → first (limitsRows w s i (c - i)) ≡ first later
+    limits-faultless f = ap first (limits-turn h) ∙ no-fault-before _ later n i e f
 
   pub limits-end : c ≤ i → first (limitsRows w s i (c - i)) ≡ passed
   unfolding limitsRows first

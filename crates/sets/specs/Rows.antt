@@ -1,11 +1,11 @@
 -- RULES, Refusals: 1 to 7, as rows in the order tested.
 use mathlib.Core.Bool.{Bool, not, cond, _||_}
 use mathlib.Core.List.{List, [], _∷_, _++_}
-use Prim.Native.Nat.{ℕ, zero, suc, _+_, _-_, _*_}
+use Prim.Native.Nat.{ℕ, zero, suc, _+_, _*_}
 use lib.Dec.{eqb, ltb, leb}
-use lib.ListN.{length}
-use Rattle.layout.specs.Bytes.{lengthField, version}
-use Rattle.layout.specs.Refusal.{Row, row, Tested, passed, refused}
+use Rattle.layout.specs.Bytes.{lengthField}
+use Rattle.layout.specs.Refusal.{Row, row}
+use Rattle.layout.specs.Head.{headRows as openingRows}
 use Rattle.meaning.specs.declared.Limit.{Limit}
 use Rattle.meaning.specs.declared.LimitSet.{LimitSet}
 use Rattle.meaning.specs.Sets.{limitAt}
@@ -32,13 +32,9 @@ limitsRows widest s i (suc n) = limitRows widest (limitAt s i) i ++ limitsRows w
 abbrev pub countRow : ℕ → Row
 countRow c = row 3 (eqb c 0 || ltb 8 c) 0
 
+-- 1 and 2, as in every layout; 3; and 4, "the length field of the set isn't 2+3c"
 abbrev pub headRows : List ℕ → List Row
-headRows b =
-    row 1 (ltb (length b) 6 || not (eqb (lengthField b) (length b - 4))) 0
-    ∷ row 2 (not (eqb (version b) 1)) 0
-    ∷ countRow (countOf b)
-    ∷ row 4 (not (eqb (lengthField b) (2 + 3 * countOf b))) 0
-    ∷ []
+headRows b = openingRows 6 1 2 b ++ (countRow (countOf b) ∷ row 4 (not (eqb (lengthField b) (2 + 3 * countOf b))) 0 ∷ [])
 
 -- the bytes of a set
 abbrev pub setRows : (widest : ℕ) → List ℕ → List Row
@@ -47,8 +43,3 @@ setRows widest b = headRows b ++ limitsRows widest (setOf b) 0 (countOf b)
 -- a set that is in memory already
 abbrev pub memoryRows : (widest : ℕ) → LimitSet → List Row
 memoryRows widest s = countRow (s .count) ∷ limitsRows widest s 0 (s .count)
-
--- what a number, 0 for none, says of limit i
-abbrev pub faultRow : ℕ → ℕ → Tested
-faultRow zero i = passed
-faultRow (suc n) i = refused (suc n) i

@@ -4,8 +4,9 @@ ghost use mathlib.Core.Path.{_≡_};
 ghost use Prim.Native.Nat.{ℕ, _+_, _*_, _≤_};
 ghost use lib.ListN.{length};
 ghost use Rattle.layout.specs.Refusal.{first};
+ghost use Rattle.layout.specs.Head.{faultRow};
 ghost use Rattle.meaning.specs.Longest.{longest};
-ghost use Rattle.sets.specs.Rows.{limitRows, limitsRows, headRows, faultRow};
+ghost use Rattle.sets.specs.Rows.{limitRows, limitsRows, headRows};
 ghost use Rattle.sets.specs.Bytes.{setOf, countOf};
 ghost use Rattle.sets.specs.Read.{says, refusedRead, ReadAs};
 
@@ -24,11 +25,6 @@ pub enum SetAnswer {
 pub struct SetRead {
     pub answer: SetAnswer,
     pub set: LimitSet,
-}
-
-pub enum SetWritten {
-    Written(usize),
-    Refused { number: u8, at: usize },
 }
 
 // 0 for a limit with allowed numbers, else 5, 6 or 7.
@@ -84,17 +80,11 @@ fn test_limits(set: LimitSet, widest: u8) -> SetAnswer
 fn test_head(bytes: &[u8]) -> SetAnswer
     ensures { λ r. ⌜ says r ≡ first (headRows (now (bytes .entry))) ⌝ }
 {
-    let n = bytes.len();
-    if n < 6 {
-        return SetAnswer::Refused { number: 1, at: 0 };
+    let number = layout::head_fault(bytes, 6, 1, 2);
+    if number != 0 {
+        return SetAnswer::Refused { number, at: 0 };
     }
     let rest = layout::length_field(bytes);
-    if rest != n - 4 {
-        return SetAnswer::Refused { number: 1, at: 0 };
-    }
-    if bytes[4] != 1 {
-        return SetAnswer::Refused { number: 2, at: 0 };
-    }
     let count = layout::wide(bytes[5]);
     if count == 0 {
         return SetAnswer::Refused { number: 3, at: 0 };

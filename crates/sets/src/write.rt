@@ -11,8 +11,8 @@ ghost use Rattle.sets.specs.Rows.{memoryRows};
 ghost use Rattle.sets.specs.Read.{says};
 ghost use Rattle.sets.specs.Write.{sizeOf, WrittenAs};
 use super::SetAnswer;
-use super::SetWritten;
 use super::test_limits;
+use layout::WriteAnswer;
 use meaning::Limit;
 use meaning::LimitSet;
 
@@ -67,21 +67,21 @@ fn put_limits(out: &mut [u8], set: LimitSet)
 }
 
 // Writes a set at the start of `out`, and says how many bytes it took.
-pub fn write_set(set: LimitSet, out: &mut [u8]) -> SetWritten
+pub fn write_set(set: LimitSet, out: &mut [u8]) -> WriteAnswer
     ensures { λ r. ⌜ WrittenAs longest set (now (out .entry)) (now (out .exit)) r ⌝ }
 {
     let answer = test_memory(set, meaning::LONGEST_WINDOW);
     if let SetAnswer::Refused { number, at } = answer {
-        return SetWritten::Refused { number, at };
+        return WriteAnswer::Refused { number, at };
     }
     let size = 6 + 3 * set.count;
     if out.len() < size {
-        return SetWritten::Refused {
+        return WriteAnswer::Refused {
             number: 9,
             at: size,
         };
     }
     put_head(out, set.count);
     put_limits(out, set);
-    SetWritten::Written(size)
+    WriteAnswer::Written(size)
 }

@@ -2,8 +2,8 @@
 use mathlib.Core.Path.{_≡_, refl, sym, _∙_}
 use mathlib.Core.Option.{Option, none, some}
 use mathlib.Core.Bool.{Bool, true, false}
-use mathlib.Core.List.{List, [], _∷_}
-use Prim.Native.Nat.{ℕ, zero, suc, _+_, _*_, _/_, _%_, _<_}
+use mathlib.Core.List.{List, []}
+use Prim.Native.Nat.{ℕ, zero, suc, _+_, _*_, _<_}
 use native.Mathlib.Nat.{zero-add, add-zero}
 use native.Mathlib.Omega.{arith}
 use borrow.Author.Tests.{eq-eqb, ne-eqb}
@@ -13,7 +13,7 @@ use Rattle.layout.specs.Bytes.{byteAt}
 use Rattle.layout.specs.Refusal.{passed, first}
 use Rattle.machines.specs.Machine.{Machine}
 use Rattle.machines.specs.Canonical.{OneTable}
-use Rattle.table.specs.Bytes.{sizeOf, pairAt, stateCount, missEntry, hitEntry, noMiss, nextIn, machineOf, entryOf, pairBytes, rowBytes, bytesOf}
+use Rattle.table.specs.Bytes.{sizeOf, pairAt, stateCount, missEntry, hitEntry, noMiss, nextIn, machineOf, entryOf, rowBytes, headThen, bytesOf}
 use Rattle.table.specs.Rows.{tableRows}
 use Rattle.table.specs.Writable.{Writable}
 use Rattle.table.proofs.Checked.{Table, table-passed}
@@ -47,13 +47,8 @@ module _ (m : Machine) where
   abbrev n : ℕ
   n = m .states
 
-  abbrev head : List ℕ
-  head =
-      (3 + 4 * n) / 16777216 ∷ (3 + 4 * n) / 65536 % 256 ∷ (3 + 4 * n) / 256 % 256 ∷ (3 + 4 * n) % 256
-      ∷ 1 ∷ pairBytes n []
-
   past-head : (k : ℕ) → byteAt b (7 + k) ≡ byteAt (rowBytes m 0 n) k
-  past-head k = getD-append-add head (rowBytes m 0 n) k 0
+  past-head k = getD-append-add (headThen n []) (rowBytes m 0 n) k 0
 
   entries-at : (s : ℕ) → s < n → (missEntry b s ≡ entryOf (m .next s false)) × (hitEntry b s ≡ entryOf (m .next s true))
   entries-at s h =

@@ -11,11 +11,12 @@ use borrow.Author.Tests.{ltb-false, leb-false, eqb-true, eqb-false, not-false, l
 use lib.ListN.{length}
 use Rattle.layout.specs.Bytes.{lengthField, version}
 use Rattle.layout.specs.Refusal.{passed, first}
-use Rattle.layout.proofs.Rows.{first-skip, passed-first, both-passed, or-none}
+use Rattle.layout.specs.Head.{headRows}
+use Rattle.layout.proofs.Head.{head-passed}
+use Rattle.layout.proofs.Rows.{first-skip, passed-first, passed-before, both-passed, or-none}
 use Rattle.machines.specs.Machine.{WellMade}
 use Rattle.table.specs.Bytes.{stateCount, missEntry, hitEntry, noMiss, nextIn, machineOf, sizeOf}
 use Rattle.table.specs.Rows.{mostStates, countRows, entryRows, entriesRows, tableRows, lookRows}
-use Rattle.table.proofs.Turns.{passed-before}
 
 ruleset tests = (le-ltb, lt-leb, eq-eqb, ne-eqb, and-false)
 
@@ -39,23 +40,14 @@ pub record Table (b : List ℕ) : Type 0 where
 module _ (b : List ℕ) where
   pub passed-counts : first (countRows b) ≡ passed → Head b
   passed-counts e =
-      let (a₁, e₁) = passed-first _ _ e in
-      let (a₂, e₂) = passed-first _ _ e₁ in
-      let (a₃, e₃) = passed-first _ _ e₂ in
+      let (p, q) = both-passed (headRows 7 10 11 b) _ e in
+      let (l, m, v) = head-passed 7 10 11 b p in
+      let (a₃, e₃) = passed-first _ _ q in
       let (a₄, e₄) = passed-first _ _ e₃ in
-      let (f, g) = or-none _ _ a₁ in
       let (h, k) = or-none _ _ a₃ in
-      let l = ltb-false (length b) 7 f in
-      let m = eqb-true (lengthField b) (length b - 4) (not-false _ g) in
       let r = eqb-true (lengthField b) (3 + 4 * stateCount b) (not-false _ a₄) in
       let z : stateCount b ≡ 0 → ⊥ = eqb-false (stateCount b) 0 h in
-      record {
-        whole = omega arith;
-        rest = r;
-        one = eqb-true (version b) 1 (not-false _ a₂);
-        some-state = omega arith;
-        most = ltb-false mostStates (stateCount b) k;
-      }
+      record { whole = omega arith; rest = r; one = v; some-state = omega arith; most = ltb-false mostStates (stateCount b) k }
 
   pub counts-passed : Head b → first (countRows b) ≡ passed
   unfolding first

@@ -1,10 +1,10 @@
 -- RULES, Bytes of a table: "the length field, 3+4n", "the version, 1", "n, how many states there are, 1 to 2,048", and for each state "two for the state that follows on a miss, two for the one that follows on a hit". "FF FF as the state that follows on a miss says that no miss is allowed there. A hit is allowed in every state". "In all 7+4n bytes".
 use mathlib.Core.Option.{Option, none, some}
 use mathlib.Core.Bool.{Bool, true, false, cond}
-use mathlib.Core.List.{List, [], _∷_}
+use mathlib.Core.List.{List, [], _∷_, _++_}
 use Prim.Native.Nat.{ℕ, zero, suc, _+_, _*_, _/_, _%_}
 use lib.Dec.{eqb}
-use Rattle.layout.specs.Bytes.{byteAt}
+use Rattle.layout.specs.Bytes.{byteAt, fourBytes}
 use Rattle.machines.specs.Machine.{Machine}
 
 abbrev pub pairAt : List ℕ → ℕ → ℕ
@@ -48,8 +48,9 @@ rowBytes m s (suc n) = pairBytes (entryOf (m .next s false)) (pairBytes (entryOf
 abbrev pub sizeOf : ℕ → ℕ
 sizeOf n = 7 + 4 * n
 
+-- the first seven bytes of a table of n states, and what follows them
+abbrev pub headThen : ℕ → List ℕ → List ℕ
+headThen n rest = fourBytes (3 + 4 * n) ++ (1 ∷ pairBytes n rest)
+
 abbrev pub bytesOf : Machine → List ℕ
-bytesOf m =
-    let n = m .states in
-    (3 + 4 * n) / 16777216 ∷ (3 + 4 * n) / 65536 % 256 ∷ (3 + 4 * n) / 256 % 256 ∷ (3 + 4 * n) % 256
-    ∷ 1 ∷ pairBytes n (rowBytes m 0 n)
+bytesOf m = headThen (m .states) (rowBytes m 0 (m .states))

@@ -1,25 +1,24 @@
 -- RULES, Refusals: 10 to 12, as rows in the order tested.
 use mathlib.Core.Bool.{not, _||_, _&&_}
 use mathlib.Core.List.{List, [], _∷_, _++_}
-use Prim.Native.Nat.{ℕ, zero, suc, _+_, _-_, _*_}
+use Prim.Native.Nat.{ℕ, zero, suc, _+_, _*_}
 use lib.Dec.{eqb, ltb, leb}
-use lib.ListN.{length}
-use Rattle.layout.specs.Bytes.{lengthField, version}
+use Rattle.layout.specs.Bytes.{lengthField}
 use Rattle.layout.specs.Refusal.{Row, row}
+use Rattle.layout.specs.Head.{headRows}
 use Rattle.table.specs.Bytes.{stateCount, missEntry, hitEntry, noMiss}
 
 -- "n is 0 or more than 2,048"
 abbrev pub mostStates : ℕ
 mostStates = 2048
 
--- 10, 11, and the counts in 12
+-- 10 and 11, as in every layout, and the counts in 12
 abbrev pub countRows : List ℕ → List Row
 countRows b =
-    row 10 (ltb (length b) 7 || not (eqb (lengthField b) (length b - 4))) 0
-    ∷ row 11 (not (eqb (version b) 1)) 0
-    ∷ row 12 (eqb (stateCount b) 0 || ltb mostStates (stateCount b)) 0
+    headRows 7 10 11 b
+    ++ (row 12 (eqb (stateCount b) 0 || ltb mostStates (stateCount b)) 0
     ∷ row 12 (not (eqb (lengthField b) (3 + 4 * stateCount b))) 0
-    ∷ []
+    ∷ [])
 
 -- "a next state isn't below n, FF FF on a miss apart", in the entry of state s
 abbrev pub entryRows : List ℕ → ℕ → List Row

@@ -43,17 +43,11 @@ fn pair(bytes: &[u8], at: usize) -> u16
 fn test_counts(bytes: &[u8]) -> TableAnswer
     ensures { λ r. ⌜ (says r ≡ first (countRows (now (bytes .entry)))) × Counts (now (bytes .entry)) r ⌝ }
 {
-    let size = bytes.len();
-    if size < 7 {
-        return TableAnswer::Refused { number: 10, at: 0 };
+    let number = layout::head_fault(bytes, 7, 10, 11);
+    if number != 0 {
+        return TableAnswer::Refused { number, at: 0 };
     }
     let rest = layout::length_field(bytes);
-    if rest != size - 4 {
-        return TableAnswer::Refused { number: 10, at: 0 };
-    }
-    if bytes[4] != 1 {
-        return TableAnswer::Refused { number: 11, at: 0 };
-    }
     let n = pair(bytes, 5) as usize;
     if n == 0 {
         return TableAnswer::Refused { number: 12, at: 0 };

@@ -1,108 +1,89 @@
--- `sets::test_head` meets its contract: each return rewrites the rows with the tests that led there. Assumes nothing.
-use mathlib.Core.Path.{_≡_, ap, ap₂, _∙_}
-use mathlib.Core.Bool.{not, _||_}
+-- `sets::test_head` meets its contract: the head decides, and where it is passed the rows of 3 and 4 do. Assumes nothing.
+use mathlib.Core.Path.{_≡_, sym, ap₂, _∙_}
+use mathlib.Core.Bool.{not}
 use mathlib.Core.List.{List, [], _∷_}
-use Prim.Native.Nat.{ℕ, _+_, _-_, _*_}
+use Prim.Native.Nat.{ℕ, _+_, _*_, _≤_}
+use native.Mathlib.Omega.{arith}
 use borrow.Author.Needs.{needs}
 use borrow.Author.Tests.{le-ltb, lt-ltb, eq-eqb, ne-eqb}
-use lib.Dec.{eqb, ltb}
+use lib.Dec.{eqb}
 use lib.ListN.{length}
-use Rattle.layout.specs.Bytes.{version}
 use Rattle.layout.specs.Refusal.{row, Tested, first}
-use Rattle.sets.specs.Bytes.{countOf}
+use Rattle.layout.specs.Head.{headRows as openingRows}
+use Rattle.layout.proofs.Head.{no-fault, fault-before, no-fault-before, head-passed}
 use Rattle.sets.specs.Rows.{countRow, headRows}
 use Rattle.sets.proofs.test_head.Statement.{statement}
 use Rattle.sets.proofs.test_head.Tie as tie
 
 ruleset tests = (lt-ltb, le-ltb, eq-eqb, ne-eqb)
 
--- tests 1 to 4 over the numbers that were read
-abbrev headOf : List ℕ → (rest count : ℕ) → Tested
-headOf b rest count =
-    first
-    (row 1 (ltb (length b) 6 || not (eqb rest (length b - 4))) 0
-    ∷ row 2 (not (eqb (version b) 1)) 0
-    ∷ countRow count
-    ∷ row 4 (not (eqb rest (2 + 3 * count))) 0
-    ∷ [])
+-- tests 3 and 4 over the numbers that were read
+abbrev countOver : (rest count : ℕ) → Tested
+countOver rest count = first (countRow count ∷ row 4 (not (eqb rest (2 + 3 * count))) 0 ∷ [])
 
--- the bytes, once the length field was read and once the count was
-abbrev b1 : tie.After-length-field → List ℕ
-b1 c = c .before .before .before .args .bytes .now
+abbrev bytes : tie.After-head-fault → List ℕ
+bytes c = c .before .before .args .bytes .now
 
-abbrev b2 : tie.After-wide → List ℕ
-b2 c = b1 (c .before .before .before .before .before)
+-- the head was passed
+long : (c : tie.Else1) → 6 ≤ length (bytes (c .before))
+long c = head-passed 6 1 2 (bytes (c .before)) (c .before .head-fault .ensures ∙ no-fault _ 0 (c .if1 .left)) .0
 
-at-length : (c : tie.After-length-field) → headOf (b1 c) (c .length-field .result) (countOf (b1 c)) ≡ first (headRows (b1 c))
-at-length c = ap (λ m. headOf (b1 c) m (countOf (b1 c))) (c .length-field .ensures .0)
+at-count : (c : tie.After-wide) → countOver (c .before .before .length-field .result) (c .wide .result) ≡ first (headRows (bytes (c .before .before .before .before)))
+at-count c =
+    let e = c .before .before .before in
+    ap₂ countOver (c .before .before .length-field .ensures .0) (c .wide .ensures .0)
+    ∙ sym (no-fault-before (openingRows 6 1 2 (bytes (e .before))) _ _ 0 (e .before .head-fault .ensures) (e .if1 .left))
 
-at-count : (c : tie.After-wide) → headOf (b2 c) (c .before .before .before .before .before .length-field .result) (c .wide .result) ≡ first (headRows (b2 c))
-at-count c = ap₂ (headOf (b2 c)) (c .before .before .before .before .before .length-field .ensures .0) (c .wide .ensures .0)
+head-fault-requires : tie.Need-head-fault-requires
+head-fault-requires c κs = search needs
 
 returns : tie.Need-returns
-unfolding first
-returns c = search tests
+returns c =
+    sym (fault-before (openingRows 6 1 2 (bytes (c .before))) _ _ 0 (c .before .head-fault .ensures) (c .if1 .taken))
 
 length-field-requires : tie.Need-length-field-requires
-length-field-requires c κs = search needs
-
-sub-if2 : tie.Need-sub-if2
-sub-if2 c = search needs
-
-returns-2 : tie.Need-returns-2
-unfolding first
-returns-2 c = search tests ∙ at-length (c .before)
-
-shared-slice-read-if3 : tie.Need-shared-slice-read-if3
-shared-slice-read-if3 c = search needs
-
-returns-3 : tie.Need-returns-3
-unfolding first
-returns-3 c = search tests ∙ at-length (c .before .before .before)
+length-field-requires c κs = omega (arith, long c)
 
 shared-slice-read-wide : tie.Need-shared-slice-read-wide
-shared-slice-read-wide c = search needs
+shared-slice-read-wide c = omega (arith, long (c .before .before))
 
 wide-requires : tie.Need-wide-requires
 wide-requires c κs = search needs
 
+returns-2 : tie.Need-returns-2
+unfolding first
+returns-2 c = search tests ∙ at-count (c .before)
+
+returns-3 : tie.Need-returns-3
+unfolding first
+returns-3 c = search tests ∙ at-count (c .before .before)
+
+mul-if4 : tie.Need-mul-if4
+mul-if4 c = search needs
+
+add-if4 : tie.Need-add-if4
+add-if4 c = search needs
+
 returns-4 : tie.Need-returns-4
 unfolding first
-returns-4 c = search tests ∙ at-count (c .before)
+returns-4 c = search tests ∙ at-count (c .before .before .before)
 
 returns-5 : tie.Need-returns-5
 unfolding first
-returns-5 c = search tests ∙ at-count (c .before .before)
-
-mul-if6 : tie.Need-mul-if6
-mul-if6 c = search needs
-
-add-if6 : tie.Need-add-if6
-add-if6 c = search needs
-
-returns-6 : tie.Need-returns-6
-unfolding first
-returns-6 c = search tests ∙ at-count (c .before .before .before)
-
-returns-7 : tie.Need-returns-7
-unfolding first
-returns-7 c = search tests ∙ at-count (c .before .before .before)
+returns-5 c = search tests ∙ at-count (c .before .before .before)
 
 pub test-head-spec : {M : Type 1} → statement M
 test-head-spec =
     tie.close
     (tie.spec
+    head-fault-requires
     returns
     length-field-requires
-    sub-if2
-    returns-2
-    shared-slice-read-if3
-    returns-3
     shared-slice-read-wide
     wide-requires
+    returns-2
+    returns-3
+    mul-if4
+    add-if4
     returns-4
-    returns-5
-    mul-if6
-    add-if6
-    returns-6
-    returns-7)
+    returns-5)

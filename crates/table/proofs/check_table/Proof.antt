@@ -5,11 +5,11 @@ use Prim.Native.Nat.{ℕ}
 use native.Mathlib.Omega.{arith}
 use borrow.Author.Needs.{needs}
 use Rattle.layout.specs.Refusal.{passed, first}
+use Rattle.layout.proofs.Rows.{refused-before, passed-before}
 use Rattle.table.specs.Bytes.{stateCount}
 use Rattle.table.specs.Rows.{countRows, entriesRows}
 use Rattle.table.specs.Check.{says}
 use Rattle.table.proofs.Answers.{states-passed}
-use Rattle.table.proofs.Turns.{refused-before, passed-before}
 use Rattle.table.proofs.Checked.{passed-counts}
 use Rattle.table.proofs.check_table.Statement.{statement}
 use Rattle.table.proofs.check_table.Tie as tie

@@ -7,12 +7,11 @@ use borrow.Author.Needs.{needs}
 use borrow.Author.Tests.{le-leb, lt-leb}
 use lib.Dec.{leb}
 use Rattle.layout.specs.Refusal.{Tested, passed, row, first}
-use Rattle.layout.proofs.Rows.{first-here, first-skip}
+use Rattle.layout.proofs.Rows.{first-here, first-skip, refused-before, passed-before}
 use Rattle.table.specs.Bytes.{stateCount}
 use Rattle.table.specs.Rows.{countRows, entryRows, lookRows}
 use Rattle.table.specs.Check.{says}
 use Rattle.table.proofs.Answers.{states-passed}
-use Rattle.table.proofs.Turns.{refused-before, passed-before}
 use Rattle.table.proofs.Checked.{passed-counts}
 use Rattle.table.proofs.look.Statement.{statement}
 use Rattle.table.proofs.look.Tie as tie

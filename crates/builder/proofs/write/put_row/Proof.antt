@@ -1,8 +1,12 @@
 -- `builder::write::put_row`: four stores in a row. Assumes nothing.
+use mathlib.Core.Path.{_∙_}
+use mathlib.Core.List.{[], append-assoc}
+use native.Mathlib.Numerals.{add-one, add-two, add-three}
 use native.Mathlib.Omega.{arith}
-use lib.ListN.{length-set}
-use Rattle.builder.proofs.Stores.{four-stores}
 use borrow.Author.Needs.{needs}
+use lib.ListN.{take, length-set}
+use lib.Seq.{sets-eq}
+use Rattle.table.specs.Bytes.{pairBytes}
 use Rattle.builder.proofs.write.put_row.Statement.{statement}
 use Rattle.builder.proofs.write.put_row.Tie as tie
 
@@ -43,7 +47,9 @@ same-length : tie.Need-same-length
 same-length c = search needs
 
 returns : tie.Need-returns
-returns c = four-stores (c .args .out .now) (c .args .at) _ _ _ _ (c .pre)
+returns c =
+    let a = c .args in
+    rw (add-one, add-two, add-three) (sets-eq (pairBytes (a .miss) (pairBytes (a .hit) [])) (a .out .now) (a .at) (c .pre) ∙ append-assoc (take (a .at) (a .out .now)) _ _)
 
 pub put-row-spec : {M : Type 1} → statement M
 put-row-spec =

@@ -9,8 +9,7 @@ use Rattle.table.specs.Shared.{row, passed, first, outcome}
 use Rattle.table.specs.Bytes.{machineOf}
 use Rattle.table.specs.Rows.{lookRows}
 use Rattle.table.specs.Check.{moveBy}
-use Rattle.table.proofs.Shared.{first-here, first-skip}
-use Rattle.table.proofs.Turns.{refused-before, passed-before}
+use Rattle.table.proofs.Shared.{first-here, first-skip, refused-before, passed-before}
 use Rattle.table.proofs.Answers.{looked-moves, looked-refused, moves-are-next}
 use Rattle.guard.specs.declared.Guard.{Guard}
 use Rattle.guard.specs.declared.TellAnswer.{TellAnswer}
