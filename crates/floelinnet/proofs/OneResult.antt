@@ -8,7 +8,7 @@ use Rattle.sets.specs.Read.{ReadAs}
 use Rattle.sets.specs.Write.{WrittenAs}
 use Rattle.sets.proofs.OneResult.{read-one-result, written-one-result}
 use Rattle.verdict.specs.Judge.{JudgedAs}
-use Rattle.verdict.proofs.OneResult.{judge-one-result}
+use Rattle.verdict.proofs.OneResult.{judged-one-result}
 use Rattle.compare.specs.Compare.{ComparedAs}
 use Rattle.compare.proofs.OneResult.{compare-one-result}
 use Rattle.builder.specs.Build.{BuiltAs}
@@ -50,7 +50,7 @@ pub floe-write-set-one-result : (s : LimitSet) (out o o′ : List ℕ) (r t : Fl
 floe-write-set-one-result s out = one-flat-lent (λ a o. WrittenAs longest s out o a) flatWritten (λ a b o o′. written-one-result longest s out o o′ a b)
 
 pub floe-judge-one-result : (b p : List ℕ) (r t : FloeVerdict) → FlatAnswer (JudgedAs longest b p) flatVerdict r → FlatAnswer (JudgedAs longest b p) flatVerdict t → r ≡ t
-floe-judge-one-result b p = one-flat (JudgedAs longest b p) flatVerdict (judge-one-result longest b p)
+floe-judge-one-result b p = one-flat (JudgedAs longest b p) flatVerdict (judged-one-result _ _ _)
 
 pub floe-compare-one-result : (a b : List ℕ) (r t : FloeComparison) → FlatAnswer (ComparedAs longest a b) flatComparison r → FlatAnswer (ComparedAs longest a b) flatComparison t → r ≡ t
 floe-compare-one-result a b = one-flat (ComparedAs longest a b) flatComparison (compare-one-result longest a b)

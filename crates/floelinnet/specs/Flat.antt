@@ -25,6 +25,11 @@ use Rattle.guard.specs.declared.Asked.{Asked}
 use Rattle.guard.specs.declared.TellAnswer.{TellAnswer}
 use Rattle.guard.specs.declared.TellAnswer.the-variants as tell
 use Rattle.guard.specs.declared.Told.{Told}
+use Rattle.night_log.specs.declared.OpenAnswer.{OpenAnswer}
+use Rattle.night_log.specs.declared.OpenAnswer.the-variants as opening
+use Rattle.night_log.specs.declared.LogAnswer.{LogAnswer}
+use Rattle.night_log.specs.declared.LogAnswer.the-variants as log
+use Rattle.night_log.specs.declared.LogRead.{LogRead}
 use Rattle.floelinnet.specs.declared.FloeSetRead.{FloeSetRead}
 use Rattle.floelinnet.specs.declared.FloeWritten.{FloeWritten}
 use Rattle.floelinnet.specs.declared.FloeVerdict.{FloeVerdict}
@@ -36,6 +41,9 @@ use Rattle.floelinnet.specs.declared.FloeAsked.{FloeAsked}
 use Rattle.floelinnet.specs.declared.FloeTold.{FloeTold}
 use Rattle.floelinnet.specs.declared.FloeDone.{FloeDone}
 use Rattle.floelinnet.specs.declared.FloeRowAsked.{FloeRowAsked}
+use Rattle.floelinnet.specs.declared.FloeLogOpened.{FloeLogOpened}
+use Rattle.floelinnet.specs.declared.FloeLogRead.{FloeLogRead}
+use Prim.Native.Nat.{ℕ}
 
 -- what an exported function promises: there is an answer that the promise of the library function behind it allows, and the record is its flat form
 abbrev pub FlatAnswer : {A R : Type 0} → (A → Type 0) → (A → R) → R → Type 0
@@ -99,3 +107,18 @@ flatAsked a = let said = flatAsk (a .answer) in record { refused = said .refused
 
 abbrev pub flatTold : Told → FloeTold
 flatTold a = let said = flatTell (a .answer) in record { refused = said .refused; at = said .at; guard = a .guard }
+
+-- place 0, on a refusal too
+abbrev pub flatOpened : OpenAnswer → FloeLogOpened
+flatOpened opening.Opened = record { refused = 0; at = 0; place = 0 }
+flatOpened (opening.Refused number at) = record { refused = number; at = at; place = 0 }
+
+-- 0 miss, 1 hit, 2 end, 3 refused; and the place where the reader then stands
+abbrev pub flatRead : LogAnswer → (place : ℕ) → FloeLogRead
+flatRead log.Miss place = record { refused = 0; at = 0; answer = 0; place = place }
+flatRead log.Hit place = record { refused = 0; at = 0; answer = 1; place = place }
+flatRead log.End place = record { refused = 0; at = 0; answer = 2; place = place }
+flatRead (log.Refused number at) place = record { refused = number; at = at; answer = 3; place = place }
+
+abbrev pub flatLogRead : LogRead → FloeLogRead
+flatLogRead a = flatRead (a .answer) (a .place)

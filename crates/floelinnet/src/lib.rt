@@ -13,8 +13,13 @@ use guard::Guard;
 use meaning::LimitSet;
 
 mod flat;
+mod log;
 mod row;
 
+pub use log::floe_log_judge;
+pub use log::floe_log_next;
+pub use log::floe_log_open;
+pub use log::floe_log_write;
 pub use row::floe_row_ask;
 pub use row::floe_row_start;
 pub use row::floe_row_tell;
@@ -105,6 +110,22 @@ pub struct FloeRowAsked {
     pub answer: u64,
 }
 
+#[repr(C)]
+pub struct FloeLogOpened {
+    pub refused: u64,
+    pub at: u64,
+    pub place: u64,
+}
+
+// answer: 0 miss, 1 hit, 2 end, 3 refused. place: where the reader then stands.
+#[repr(C)]
+pub struct FloeLogRead {
+    pub refused: u64,
+    pub at: u64,
+    pub answer: u64,
+    pub place: u64,
+}
+
 #[no_mangle]
 pub extern "C" fn floe_read_set(set: &[u8]) -> FloeSetRead
     ensures { λ r. ⌜ FlatAnswer (ReadAs longest (now (set .entry))) flatSet r ⌝ }
@@ -130,47 +151,14 @@ pub extern "C" fn floe_read_set(set: &[u8]) -> FloeSetRead
 pub extern "C" fn floe_write_set(set: LimitSet, bytes: &mut [u8]) -> FloeWritten
     ensures { λ r. ⌜ FlatAnswer (WrittenAs longest set (now (bytes .entry)) (now (bytes .exit))) flatWritten r ⌝ }
 {
-    match sets::write_set(set, bytes) {
-        layout::WriteAnswer::Written(size) => FloeWritten {
-            refused: 0,
-            at: 0,
-            length: size as u64,
-        },
-        layout::WriteAnswer::Refused { number, at } => FloeWritten {
-            refused: number as u64,
-            at: at as u64,
-            length: 0,
-        },
-    }
+    flat::written(sets::write_set(set, bytes))
 }
 
 #[no_mangle]
 pub extern "C" fn floe_judge(set: &[u8], pattern: &[u8]) -> FloeVerdict
     ensures { λ r. ⌜ FlatAnswer (JudgedAs longest (now (set .entry)) (now (pattern .entry))) flatVerdict r ⌝ }
 {
-    match verdict::judge(set, pattern) {
-        verdict::Judgement::Kept => FloeVerdict {
-            refused: 0,
-            at: 0,
-            kept: 1,
-            job: 0,
-            limit: 0,
-        },
-        verdict::Judgement::Lost { job, limit } => FloeVerdict {
-            refused: 0,
-            at: 0,
-            kept: 0,
-            job,
-            limit: limit as u64,
-        },
-        verdict::Judgement::Refused { number, at } => FloeVerdict {
-            refused: number as u64,
-            at: at as u64,
-            kept: 0, // what wasn't judged isn't kept
-            job: 0,
-            limit: 0,
-        },
-    }
+    flat::judged(verdict::judge(set, pattern))
 }
 
 #[no_mangle]
