@@ -1,4 +1,6 @@
 pub mod Accepted
 pub mod Outcomes
 pub mod Packing
+pub mod OneResult
 pub mod RoundTrip
+pub mod Calls
