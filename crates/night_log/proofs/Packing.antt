@@ -4,7 +4,7 @@ use mathlib.Core.Logic.{dite}
 use mathlib.Core.Bool.{Bool, true, false}
 use mathlib.Core.List.{List, [], _∷_}
 use Prim.Native.Nat.{ℕ, zero, suc, _+_, _-_, _*_, _/_, _%_, _^_, _≤_, _<_}
-use native.Mathlib.Nat.{add-zero, zero-div, zero-mod, mod-eq-of-lt}
+use native.Mathlib.Nat.{add-zero, zero-add, zero-div, zero-mod, mod-eq-of-lt}
 use native.Mathlib.Numerals.{towards-suc}
 use native.Mathlib.Decide.{decLt}
 use native.Mathlib.Omega.{arith}
@@ -26,6 +26,9 @@ module _ (p : List Bool) where
   packed-at j zero k h = absurd (omega arith)
   packed-at j (suc n) zero h = ap (λ z. byteFrom p (8 * z)) (sym (add-zero j))
   packed-at j (suc n) (suc k) h = let e : suc j + k ≡ j + suc k = omega arith in packed-at (suc j) n k (omega arith) ∙ ap (λ z. byteFrom p (8 * z)) e
+
+  pub packed-byte : (n k : ℕ) → k < n → getD (packed p 0 n) k 0 ≡ byteFrom p (8 * k)
+  packed-byte n k h = packed-at 0 n k h ∙ ap (λ z. byteFrom p (8 * z)) (zero-add k)
 
 -- bit k is among the n low ones
 low-bit : (x n k : ℕ) → k < n → x % 2 ^ n / 2 ^ k % 2 ≡ x / 2 ^ k % 2

@@ -3,8 +3,8 @@ use mathlib.Core.Path.{_≡_, refl, sym, ap, ap₂, _∙_}
 use mathlib.Core.Logic.{dite}
 use mathlib.Core.Bool.{Bool, false}
 use mathlib.Core.List.{List, [], _∷_, _++_}
-use Prim.Native.Nat.{ℕ, _+_, _-_, _*_, _/_, _%_, _^_, _≤_, _<_}
-use native.Mathlib.Nat.{zero-add}
+use Prim.Native.Nat.{ℕ, zero, suc, _+_, _-_, _*_, _/_, _%_, _^_, _≤_, _<_}
+use native.Mathlib.Numerals.{add-one, add-two, add-three, add-four}
 use native.Mathlib.Decide.{decLt}
 use native.Mathlib.Omega.{arith}
 use lib.ListN.{length, drop, length-drop, List·getD-eq-default}
@@ -13,10 +13,10 @@ use Rattle.layout.specs.Bytes.{byteAt, fourAt, fourBytes}
 use Rattle.layout.specs.Refusal.{passed, first}
 use Rattle.patterns.specs.Outcome.{outcome}
 use Rattle.night_log.specs.Bytes.{packedSize, sizeOf, outcomeAt, byteFrom, packed, headBytes, logOf, countOf, outcomeIn, outcomesOf}
-use Rattle.night_log.specs.Rows.{unusedBits, logRows}
+use Rattle.night_log.specs.Rows.{mostOutcomes, unusedBits, logRows}
 use Rattle.night_log.proofs.Accepted.{Log, accepted-log, passed-log}
 use Rattle.night_log.proofs.Outcomes.{outcomes-length, outcomes-at}
-use Rattle.night_log.proofs.Packing.{packed-length, packed-at, byte-bit, byte-low, byte-back, zero-bit}
+use Rattle.night_log.proofs.Packing.{packed-length, packed-byte, byte-lt, byte-bit, byte-low, byte-back, zero-bit}
 
 -- the log of a pattern
 
@@ -30,10 +30,10 @@ module _ (p : List Bool) where
   log-byte : (k : ℕ) → k < packedSize (length p) → byteAt (logOf p) (9 + k) ≡ byteFrom p (8 * k)
   log-byte k h =
       let m = packedSize (length p) in
-      getD-append-add (headBytes (length p)) (packed p 0 m) k 0 ∙ packed-at p 0 m k h ∙ ap (λ z. byteFrom p (8 * z)) (zero-add k)
+      getD-append-add (headBytes (length p)) (packed p 0 m) k 0 ∙ packed-byte p m k h
 
-  log-unused : byteAt (logOf p) (8 + packedSize (length p)) % 2 ^ unusedBits (length p) ≡ 0
-  log-unused =
+  unused-zero : byteAt (logOf p) (8 + packedSize (length p)) % 2 ^ unusedBits (length p) ≡ 0
+  unused-zero =
       let n = length p in
       let k = packedSize n - 1 in
       dite (decLt 0 n)
@@ -47,7 +47,7 @@ module _ (p : List Bool) where
     size = omega (arith, packed-length p 0 (packedSize (length p))) ∙ ap sizeOf (sym log-count);
     field = four-number (5 + packedSize (length p)) ∙ ap (λ z. 5 + packedSize z) (sym log-count);
     versioned = refl;
-    unused = ap (λ z. byteAt (logOf p) (8 + packedSize z) % 2 ^ unusedBits z) log-count ∙ log-unused;
+    unused = ap (λ z. byteAt (logOf p) (8 + packedSize z) % 2 ^ unusedBits z) log-count ∙ unused-zero;
   })
 
   log-outcome : (i : ℕ) → i < length p → outcomeIn (logOf p) i ≡ outcomeAt p i
@@ -60,14 +60,37 @@ module _ (p : List Bool) where
       let l = outcomes-length (logOf p) ∙ log-count in
       ext-getD false (outcomesOf (logOf p)) p l (λ i h. outcomes-at (logOf p) i (omega arith) ∙ log-outcome i (omega arith))
 
+-- it is bytes where four of them can count the outcomes
+
+abbrev Bytes : List ℕ → Type 0
+Bytes [] = Unit {0}
+Bytes (x ∷ b) = (x < 256) × Bytes b
+
+bytes-at : (b : List ℕ) → Bytes b → (i : ℕ) → byteAt b i < 256
+bytes-at [] h i = omega arith
+bytes-at (x ∷ b) (h, t) zero = h
+bytes-at (x ∷ b) (h, t) (suc i) = bytes-at b t i
+
+packed-bytes : (p : List Bool) (j n : ℕ) → Bytes (packed p j n)
+unfolding packed
+packed-bytes p j zero = tt
+packed-bytes p j (suc n) = (byte-lt p (8 * j), packed-bytes p (suc j) n)
+
+four-bytes : (n : ℕ) (b : List ℕ) → n ≤ mostOutcomes → Bytes b → Bytes (fourBytes n ++ b)
+four-bytes n b h t = (omega arith, (omega arith, (omega arith, (omega arith, t))))
+
+pub log-bytes : (p : List Bool) → length p ≤ mostOutcomes → (i : ℕ) → byteAt (logOf p) i < 256
+log-bytes p h =
+    let n = length p in
+    let m = packedSize n in
+    let b = packed p 0 m in
+    bytes-at (logOf p) (four-bytes (5 + m) (1 ∷ (fourBytes n ++ b)) (omega arith) (omega arith, four-bytes n b h (packed-bytes p 0 m)))
+
 -- the bytes that were read, written again
 
 module _ (b : List ℕ) (bytes : (i : ℕ) → byteAt b i < 256) where
-  abbrev four : ℕ → List ℕ
-  four i = byteAt b i ∷ byteAt b (i + 1) ∷ byteAt b (i + 2) ∷ byteAt b (i + 3) ∷ []
-
-  four-back : (i : ℕ) → fourBytes (fourAt b i) ≡ four i
-  four-back i =
+  four-off : (i : ℕ) → i + 4 ≤ length b → fourBytes (fourAt b i) ++ drop (i + 4) b ≡ drop i b
+  four-off i h =
       let h₁ = bytes (i + 1) in
       let h₂ = bytes (i + 2) in
       let h₃ = bytes (i + 3) in
@@ -75,7 +98,7 @@ module _ (b : List ℕ) (bytes : (i : ℕ) → byteAt b i < 256) where
       let e₁ : fourAt b i / 65536 % 256 ≡ byteAt b (i + 1) = omega arith in
       let e₂ : fourAt b i / 256 % 256 ≡ byteAt b (i + 2) = omega arith in
       let e₃ : fourAt b i % 256 ≡ byteAt b (i + 3) = omega arith in
-      cc
+      cc (add-one i, add-two i, add-three i, add-four i, drop-cons b i 0 (omega arith), drop-cons b (suc i) 0 (omega arith), drop-cons b (suc (suc i)) 0 (omega arith), drop-cons b (suc (suc (suc i))) 0 (omega arith))
 
   byte-read : Log b → (k : ℕ) → k < packedSize (countOf b) → byteFrom (outcomesOf b) (8 * k) ≡ byteAt b (9 + k)
   byte-read l k h = byte-back (outcomesOf b) (8 * k) (byteAt b (9 + k)) (bytes (9 + k)) (λ r g. dite (decLt (8 * k + r) (countOf b))
@@ -89,18 +112,21 @@ module _ (b : List ℕ) (bytes : (i : ℕ) → byteAt b i < 256) where
       List·getD-eq-default (outcomesOf b) false (omega (arith, outcomes-length b))
       ∙ sym (zero-bit (byteAt b (9 + k)) u r g (omega arith) (ap (λ z. byteAt b z % 2 ^ u) e ∙ l .unused))))
 
-  nine : 9 ≤ length b → four 0 ++ (byteAt b 4 ∷ four 5) ++ drop 9 b ≡ b
-  nine h = cc (drop-cons b 0 0 (omega arith), drop-cons b 1 0 (omega arith), drop-cons b 2 0 (omega arith), drop-cons b 3 0 (omega arith), drop-cons b 4 0 (omega arith), drop-cons b 5 0 (omega arith), drop-cons b 6 0 (omega arith), drop-cons b 7 0 (omega arith), drop-cons b 8 0 (omega arith))
+  packed-read : Log b → packed (outcomesOf b) 0 (packedSize (countOf b)) ≡ drop 9 b
+  packed-read l =
+      let q = outcomesOf b in
+      let m = packedSize (countOf b) in
+      let long = packed-length q 0 m in
+      ext-getD 0 (packed q 0 m) (drop 9 b) (omega (arith, length-drop 9 b)) (λ k h.
+      let g : k < m = omega arith in
+      packed-byte q m k g ∙ byte-read l k g ∙ sym (getD-drop 9 b k 0))
 
   pub log-of-outcomes : first (logRows b) ≡ passed → logOf (outcomesOf b) ≡ b
   log-of-outcomes e =
       let l = accepted-log b e in
-      let q = outcomesOf b in
-      let m = packedSize (countOf b) in
-      let head : headBytes (countOf b) ≡ four 0 ++ (byteAt b 4 ∷ four 5) = cc (four-back 0, four-back 5) in
-      let rest : packed q 0 m ≡ drop 9 b = ext-getD 0 (packed q 0 m) (drop 9 b) (omega (arith, packed-length q 0 m, length-drop 9 b)) (λ k h.
-      packed-at q 0 m k (omega (arith, packed-length q 0 m)) ∙ ap (λ z. byteFrom q (8 * z)) (zero-add k) ∙ byte-read l k (omega (arith, packed-length q 0 m)) ∙ sym (getD-drop 9 b k 0)) in
-      ap (λ z. headBytes z ++ packed q 0 (packedSize z)) (outcomes-length b) ∙ ap₂ _++_ head rest ∙ nine (omega arith)
+      let z : length (outcomesOf b) ≡ countOf b = outcomes-length b in
+      cc (packed-read l, four-off 0 (omega arith), four-off 5 (omega arith), drop-cons b 4 0 (omega arith))
 
-pub one-log : (b b′ : List ℕ) → ((i : ℕ) → byteAt b i < 256) → ((i : ℕ) → byteAt b′ i < 256) → first (logRows b) ≡ passed → first (logRows b′) ≡ passed → outcomesOf b ≡ outcomesOf b′ → b ≡ b′
+pub one-log : (b b′ : List ℕ) → ((i : ℕ) → byteAt b i < 256) → ((i : ℕ) → byteAt b′ i < 256)
+    → first (logRows b) ≡ passed → first (logRows b′) ≡ passed → outcomesOf b ≡ outcomesOf b′ → b ≡ b′
 one-log b b′ h h′ p p′ e = sym (log-of-outcomes b h p) ∙ ap logOf e ∙ log-of-outcomes b′ h′ p′

@@ -4,3 +4,4 @@ pub mod Read
 pub mod Write
 pub mod Judge
 pub mod Reader
+pub mod Calls
