@@ -8,7 +8,11 @@ use Rattle.sets.specs.Read.{ReadAs}
 use Rattle.sets.specs.Write.{WrittenAs}
 use Rattle.sets.proofs.OneResult.{read-one-result, written-one-result}
 use Rattle.verdict.specs.Judge.{JudgedAs}
-use Rattle.verdict.proofs.OneResult.{judged-one-result}
+use Rattle.verdict.proofs.OneResult.{judge-one-result}
+use Rattle.night_log.specs.Read.{OpenedAs, ReadAs as LogReadAs}
+use Rattle.night_log.specs.Write.{LogWrittenAs}
+use Rattle.night_log.specs.Judge.{LogJudgedAs}
+use Rattle.night_log.proofs.OneResult.{log-written-one-result, opened-one-result, log-read-one-result, log-judge-one-result}
 use Rattle.compare.specs.Compare.{ComparedAs}
 use Rattle.compare.proofs.OneResult.{compare-one-result}
 use Rattle.builder.specs.Build.{BuiltAs}
@@ -30,7 +34,9 @@ use Rattle.floelinnet.specs.declared.FloeAsked.{FloeAsked}
 use Rattle.floelinnet.specs.declared.FloeTold.{FloeTold}
 use Rattle.floelinnet.specs.declared.FloeDone.{FloeDone}
 use Rattle.floelinnet.specs.declared.FloeRowAsked.{FloeRowAsked}
-use Rattle.floelinnet.specs.Flat.{FlatAnswer, flatSet, flatWritten, flatVerdict, flatComparison, flatBuilt, flatChecked, flatStart, flatAsk, flatTell, flatStarted, flatAsked, flatTold}
+use Rattle.floelinnet.specs.declared.FloeLogOpened.{FloeLogOpened}
+use Rattle.floelinnet.specs.declared.FloeLogRead.{FloeLogRead}
+use Rattle.floelinnet.specs.Flat.{FlatAnswer, flatSet, flatWritten, flatVerdict, flatComparison, flatBuilt, flatChecked, flatStart, flatAsk, flatTell, flatStarted, flatAsked, flatTold, flatOpened, flatLogRead}
 
 one-flat : {A R : Type 0} (promise : A → Type 0) (flat : A → R) → ((a b : A) → promise a → promise b → a ≡ b) → (r t : R) → FlatAnswer promise flat r → FlatAnswer promise flat t → r ≡ t
 one-flat promise flat one r t (a, p, e) (b, q, f) = e ∙ ap flat (one a b p q) ∙ sym f
@@ -50,7 +56,7 @@ pub floe-write-set-one-result : (s : LimitSet) (out o o′ : List ℕ) (r t : Fl
 floe-write-set-one-result s out = one-flat-lent (λ a o. WrittenAs longest s out o a) flatWritten (λ a b o o′. written-one-result longest s out o o′ a b)
 
 pub floe-judge-one-result : (b p : List ℕ) (r t : FloeVerdict) → FlatAnswer (JudgedAs longest b p) flatVerdict r → FlatAnswer (JudgedAs longest b p) flatVerdict t → r ≡ t
-floe-judge-one-result b p = one-flat (JudgedAs longest b p) flatVerdict (judged-one-result _ _ _)
+floe-judge-one-result b p = one-flat (JudgedAs longest b p) flatVerdict (judge-one-result longest b p)
 
 pub floe-compare-one-result : (a b : List ℕ) (r t : FloeComparison) → FlatAnswer (ComparedAs longest a b) flatComparison r → FlatAnswer (ComparedAs longest a b) flatComparison t → r ≡ t
 floe-compare-one-result a b = one-flat (ComparedAs longest a b) flatComparison (compare-one-result longest a b)
@@ -82,3 +88,15 @@ module _ (row : List Guard) (job : ℕ) (b : List ℕ) where
 
   pub floe-row-tell-one-result : (byte : ℕ) (z z′ : List Guard) (r t : FloeDone) → FlatAnswer (λ a. RowToldAs row job b byte a z) flatTell r → FlatAnswer (λ a. RowToldAs row job b byte a z′) flatTell t → (r ≡ t) × (z ≡ z′)
   floe-row-tell-one-result byte = one-flat-lent (RowToldAs row job b byte) flatTell (row-tell-one-result row job b byte)
+
+pub floe-log-write-one-result : (p out o o′ : List ℕ) (r t : FloeWritten) → FlatAnswer (LogWrittenAs p out o) flatWritten r → FlatAnswer (LogWrittenAs p out o′) flatWritten t → (r ≡ t) × (o ≡ o′)
+floe-log-write-one-result p out = one-flat-lent (λ a o. LogWrittenAs p out o a) flatWritten (λ a b o o′. log-written-one-result p out o o′ a b)
+
+pub floe-log-open-one-result : (b : List ℕ) (r t : FloeLogOpened) → FlatAnswer (OpenedAs b) flatOpened r → FlatAnswer (OpenedAs b) flatOpened t → r ≡ t
+floe-log-open-one-result b = one-flat (OpenedAs b) flatOpened (opened-one-result b)
+
+pub floe-log-next-one-result : (b : List ℕ) (place : ℕ) (r t : FloeLogRead) → FlatAnswer (LogReadAs b place) flatLogRead r → FlatAnswer (LogReadAs b place) flatLogRead t → r ≡ t
+floe-log-next-one-result b place = one-flat (LogReadAs b place) flatLogRead (log-read-one-result b place)
+
+pub floe-log-judge-one-result : (b l : List ℕ) (r t : FloeVerdict) → FlatAnswer (LogJudgedAs longest b l) flatVerdict r → FlatAnswer (LogJudgedAs longest b l) flatVerdict t → r ≡ t
+floe-log-judge-one-result b l = one-flat (LogJudgedAs longest b l) flatVerdict (log-judge-one-result longest b l)

@@ -1,28 +1,24 @@
+-- `floelinnet::flat::opened`: each case of the answer is flattened as the definition says. Assumes nothing.
+use mathlib.Core.Path.{sym, ap}
 use borrow.Author.Needs.{needs}
+use Rattle.floelinnet.specs.Flat.{flatOpened}
 use Rattle.floelinnet.proofs.flat.opened.Statement.{statement}
 use Rattle.floelinnet.proofs.flat.opened.Tie as tie
-use Rattle.floelinnet.proofs.flat.opened.Reads as reads
-use Rattle.floelinnet.proofs.flat.opened.Lts as lts
 
--- src/flat.rt:112:42
 enum-told : tie.Need-enum-told
 enum-told c = search needs
 
--- src/flat.rt:117:42
 enum-known-answer : tie.Need-enum-known-answer
 enum-known-answer c = search needs
 
--- src/flat.rt:118:22
 cast-t5 : tie.Need-cast-t5
 cast-t5 c = search needs
 
--- src/flat.rt:108:1
 returns : tie.Need-returns
-returns c = ?
+returns c = sym (ap flatOpened (c .enum-told .given .1))
 
--- src/flat.rt:108:1
 returns-2 : tie.Need-returns-2
-returns-2 c = ?
+returns-2 c = sym (ap flatOpened (c .before .answer .given .1))
 
 pub opened-spec : {M : Type 1} → statement M
 opened-spec = tie.close (tie.spec enum-told enum-known-answer cast-t5 returns returns-2)

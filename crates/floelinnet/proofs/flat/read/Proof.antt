@@ -1,44 +1,36 @@
+-- `floelinnet::flat::read`: each case of the answer is flattened as the definition says. Assumes nothing.
+use mathlib.Core.Path.{sym, ap}
 use borrow.Author.Needs.{needs}
+use Rattle.floelinnet.specs.Flat.{flatRead}
 use Rattle.floelinnet.proofs.flat.read.Statement.{statement}
 use Rattle.floelinnet.proofs.flat.read.Tie as tie
-use Rattle.floelinnet.proofs.flat.read.Reads as reads
-use Rattle.floelinnet.proofs.flat.read.Lts as lts
 
--- src/flat.rt:129:39
 enum-told : tie.Need-enum-told
 enum-told c = search needs
 
--- src/flat.rt:135:38
 enum-told-2 : tie.Need-enum-told-2
 enum-told-2 c = search needs
 
--- src/flat.rt:141:38
 enum-told-3 : tie.Need-enum-told-3
 enum-told-3 c = search needs
 
--- src/flat.rt:147:41
 enum-known-answer : tie.Need-enum-known-answer
 enum-known-answer c = search needs
 
--- src/flat.rt:148:22
 cast-t6 : tie.Need-cast-t6
 cast-t6 c = search needs
 
--- src/flat.rt:125:1
 returns : tie.Need-returns
-returns c = ?
+returns c = sym (ap (λ a. flatRead a (c .before .before .args .place)) (c .enum-told .given .1))
 
--- src/flat.rt:125:1
 returns-2 : tie.Need-returns-2
-returns-2 c = ?
+returns-2 c = sym (ap (λ a. flatRead a (c .before .before .args .place)) (c .enum-told2 .given .1))
 
--- src/flat.rt:125:1
 returns-3 : tie.Need-returns-3
-returns-3 c = ?
+returns-3 c = sym (ap (λ a. flatRead a (c .before .before .args .place)) (c .enum-told3 .given .1))
 
--- src/flat.rt:125:1
 returns-4 : tie.Need-returns-4
-returns-4 c = ?
+returns-4 c = sym (ap (λ a. flatRead a (c .before .before .before .args .place)) (c .before .answer .given .1))
 
 pub read-spec : {M : Type 1} → statement M
 read-spec =
