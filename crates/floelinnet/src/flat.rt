@@ -87,7 +87,7 @@ pub(crate) fn asked(answer: guard::AskAnswer) -> FloeRowAsked
         guard::AskAnswer::Refused { number, at } => FloeRowAsked {
             refused: number as u64,
             at: at as u64,
-            answer: 3,
+            answer: 3, // what is refused isn't normal
         },
     }
 }
@@ -147,7 +147,7 @@ pub(crate) fn read(answer: night_log::LogAnswer, place: u64) -> FloeLogRead
         night_log::LogAnswer::Refused { number, at } => FloeLogRead {
             refused: number as u64,
             at: at as u64,
-            answer: 3,
+            answer: 3, // what is refused isn't the end
             place,
         },
     }

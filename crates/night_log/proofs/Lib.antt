@@ -1,7 +1,9 @@
 pub mod Accepted
 pub mod Outcomes
 pub mod Packing
-pub mod Written
+pub mod Turns
 pub mod OneResult
 pub mod RoundTrip
 pub mod Calls
+pub mod Judged
+pub mod Stored

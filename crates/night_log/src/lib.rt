@@ -99,13 +99,13 @@ pub fn read_log(log: &[u8], place: usize) -> LogRead
     if number != 0 {
         return LogRead {
             answer: LogAnswer::Refused { number, at: 0 },
-            place,
+            place, // a refusal keeps it
         };
     }
     if layout::four_at(log, 5) <= place {
         return LogRead {
             answer: LogAnswer::End,
-            place,
+            place, // and so does the end
         };
     }
     if outcome_in(log, place) {

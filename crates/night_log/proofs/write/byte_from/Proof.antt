@@ -4,7 +4,7 @@ use Prim.Native.Nat.{_+_, _*_, _-_, _≤_}
 use native.Mathlib.Omega.{arith}
 use borrow.Author.Needs.{needs}
 use Rattle.patterns.specs.Outcome.{outcomes}
-use Rattle.night_log.proofs.Written.{bitsFrom, bits-room, bits-more, bits-eight}
+use Rattle.night_log.proofs.Turns.{bitsFrom, bits-room, bits-more, bits-eight}
 use Rattle.night_log.proofs.write.byte_from.Statement.{statement}
 use Rattle.night_log.proofs.write.byte_from.Tie as tie
 

@@ -7,7 +7,7 @@ use lib.ListN.{drop, length-set}
 use borrow.Author.Needs.{needs}
 use Rattle.layout.specs.Bytes.{fourBytes}
 use Rattle.night_log.specs.Bytes.{packedSize}
-use Rattle.night_log.proofs.Written.{head-written}
+use Rattle.night_log.proofs.Turns.{head-written}
 use Rattle.night_log.proofs.write.put_head.Statement.{statement}
 use Rattle.night_log.proofs.write.put_head.Tie as tie
 

@@ -6,7 +6,7 @@ use borrow.Author.Needs.{needs}
 use lib.ListN.{length, set, length-set}
 use Rattle.patterns.specs.Outcome.{outcomes}
 use Rattle.night_log.specs.Bytes.{packedSize}
-use Rattle.night_log.proofs.Written.{packedTo, pack-none, pack-turn}
+use Rattle.night_log.proofs.Turns.{packedTo, pack-none, pack-turn}
 use Rattle.night_log.proofs.write.put_outcomes.Statement.{statement}
 use Rattle.night_log.proofs.write.put_outcomes.Tie as tie
 

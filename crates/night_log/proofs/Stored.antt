@@ -1,0 +1,54 @@
+-- What was written is the log of the pattern: it is accepted, and a reader gives the pattern back, outcome by outcome, and then the end for ever. Assumes nothing.
+use mathlib.Core.Path.{_≡_, sym, ap, ap₂, _∙_, subst}
+use mathlib.Core.List.{List, _++_}
+use Prim.Native.Nat.{ℕ}
+use native.Mathlib.Omega.{arith}
+use lib.ListN.{length, take, drop, length-append, length-map}
+use lib.Seq.{take-at}
+use Rattle.layout.specs.declared.WriteAnswer.the-variants.{Written}
+use Rattle.layout.specs.Refusal.{passed, first}
+use Rattle.layout.specs.Write.{bufferWhen, lengthWhen}
+use Rattle.patterns.specs.Outcome.{outcome, outcomes}
+use Rattle.night_log.specs.declared.LogRead.{LogRead}
+use Rattle.night_log.specs.Bytes.{packedSize, sizeOf, packed, logOf}
+use Rattle.night_log.specs.Rows.{logRows, writeRows}
+use Rattle.night_log.specs.Write.{LogWrittenAs}
+use Rattle.night_log.specs.Calls.{Calls, HandsInOrder, EndsAfter}
+use Rattle.night_log.proofs.Packing.{packed-length}
+use Rattle.night_log.proofs.RoundTrip.{log-accepted}
+use Rattle.night_log.proofs.Calls.{reads-back, reads-end}
+
+module _ (pattern out out′ : List ℕ) (n : ℕ) (written : LogWrittenAs pattern out out′ (Written n)) where
+  -- as many bytes as the writer returned
+  abbrev stored : List ℕ
+  stored = take n out′
+
+  rows-passed : first (writeRows pattern out) ≡ passed
+  rows-passed = sym (written .answer)
+
+  length-is : n ≡ sizeOf (length pattern)
+  length-is = written .length-written ∙ ap (λ t. lengthWhen t (sizeOf (length pattern))) rows-passed
+
+  log-length : length (logOf (outcomes pattern)) ≡ n
+  log-length =
+      let p = outcomes pattern in
+      let e : length p ≡ length pattern = length-map pattern outcome in
+      omega (arith, packed-length p 0 (packedSize (length p)), ap packedSize e, length-is)
+
+  pub stored-log : stored ≡ logOf (outcomes pattern)
+  stored-log =
+      ap (take n) (written .buffer ∙ ap (λ t. bufferWhen t (sizeOf (length pattern)) (logOf (outcomes pattern)) out) rows-passed)
+      ∙ take-at (logOf (outcomes pattern)) (drop (sizeOf (length pattern)) out) n log-length
+
+  pub stored-accepted : first (logRows stored) ≡ passed
+  stored-accepted = subst (λ z. first (logRows z) ≡ passed) (sym stored-log) (log-accepted (outcomes pattern))
+
+  module _ (reads : ℕ → LogRead) (calls : Calls stored reads) where
+    on-log : Calls (logOf (outcomes pattern)) reads
+    on-log = subst (λ z. Calls z reads) stored-log calls
+
+    pub stored-read-back : HandsInOrder (outcomes pattern) reads
+    stored-read-back = reads-back (outcomes pattern) reads on-log
+
+    pub stored-then-ends : EndsAfter (outcomes pattern) reads
+    stored-then-ends = reads-end (outcomes pattern) reads on-log
