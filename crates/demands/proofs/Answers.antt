@@ -20,6 +20,11 @@ use Rattle.sets.specs.Read.{says as read-says}
 use Rattle.verdict.specs.declared.Judgement.{Judgement}
 use Rattle.verdict.specs.declared.Judgement.the-variants as judge
 use Rattle.verdict.specs.Judge.{says as judge-says}
+use Rattle.night_log.specs.declared.OpenAnswer.{OpenAnswer}
+use Rattle.night_log.specs.declared.OpenAnswer.the-variants as opening
+use Rattle.night_log.specs.declared.LogAnswer.{LogAnswer}
+use Rattle.night_log.specs.declared.LogAnswer.the-variants as log
+use Rattle.night_log.specs.Read.{openSays, says as log-says}
 use Rattle.compare.specs.declared.CompareAnswer.{CompareAnswer}
 use Rattle.compare.specs.declared.CompareAnswer.the-variants as compare
 use Rattle.compare.specs.Compare.{BothTested, both-passed, one-refused, in-turn, says as compare-says}
@@ -99,6 +104,22 @@ module _ (Number : ℕ → Type 0) (rows : List Row) where
       known : (r : TellAnswer) (n v : ℕ) → tellSays r ≡ refused n v → r ≡ tell.Refused n v
       known tell.Told n v e = absurd (passed-not-refused e)
       known (tell.Refused k u) n v e = cc
+
+  pub by-opened : (r : OpenAnswer) → Numbers Number rows → openSays r ≡ first rows → Refuses opening.Refused Number (first rows) r
+  by-opened r = refuses openSays opening.Refused Number rows r (λ n v. refl) (known r)
+    where
+      known : (r : OpenAnswer) (n v : ℕ) → openSays r ≡ refused n v → r ≡ opening.Refused n v
+      known opening.Opened n v e = absurd (passed-not-refused e)
+      known (opening.Refused k u) n v e = cc
+
+  pub by-read : (r : LogAnswer) → Numbers Number rows → log-says r ≡ first rows → Refuses log.Refused Number (first rows) r
+  by-read r = refuses log-says log.Refused Number rows r (λ n v. refl) (known r)
+    where
+      known : (r : LogAnswer) (n v : ℕ) → log-says r ≡ refused n v → r ≡ log.Refused n v
+      known log.Miss n v e = absurd (passed-not-refused e)
+      known log.Hit n v e = absurd (passed-not-refused e)
+      known log.End n v e = absurd (passed-not-refused e)
+      known (log.Refused k u) n v e = cc
 
 -- the comparison, whose refusal also says which set
 both-not-one : {w n v : ℕ} → both-passed ≡ one-refused w n v → ⊥

@@ -8,10 +8,11 @@ use mathlib.Core.List.{List, [], _∷_, _++_}
 use Prim.Native.Nat.{ℕ, _-_, _≤_}
 use native.Mathlib.Omega.{arith}
 use lib.ListN.{length, replicate}
-use Rattle.layout.specs.Refusal.{Tested, passed, refused, first}
+use Rattle.layout.specs.Refusal.{Row, Tested, passed, refused, first}
 use Rattle.layout.proofs.Rows.{passed-not-refused}
 use Rattle.patterns.specs.Outcome.{outcome, outcomes}
 use Rattle.machines.specs.Machine.{walk, Can}
+use Rattle.meaning.specs.declared.LimitSet.{LimitSet}
 use Rattle.meaning.specs.Longest.{longest}
 use Rattle.meaning.specs.Sets.{KeptBy, LostAt}
 use Rattle.meaning.specs.Covers.{FirstBetween}
@@ -23,7 +24,9 @@ use Rattle.sets.specs.Rows.{setRows}
 use Rattle.sets.proofs.Accepted.{accepted-allowed}
 use Rattle.verdict.specs.declared.Judgement.{Judgement}
 use Rattle.verdict.specs.declared.Judgement.the-variants.{Kept, Lost, Refused}
-use Rattle.verdict.specs.Judge.{judgeRows, says, Verdict, JudgedAs}
+use Rattle.verdict.specs.Judge.{judgeRows, says, Verdict, JudgedBy, JudgedAs}
+use Rattle.night_log.specs.Bytes.{outcomesOf}
+use Rattle.night_log.specs.Judge.{logJudgeRows, LogJudgedAs}
 use Rattle.compare.specs.declared.Compared.{Compared}
 use Rattle.compare.specs.declared.CompareAnswer.{CompareAnswer}
 use Rattle.compare.specs.declared.CompareAnswer.the-variants as comparison
@@ -48,32 +51,48 @@ use Rattle.demands.proofs.Tables.{made-walks-kept}
 use Rattle.demands.proofs.Guarded.{answers-by-meaning, heeded-kept, kept-not-lost as guard-not-lost, hits-bring-fresh, lost-state}
 use Rattle.demands.proofs.Answers.{both-accepted}
 
--- The verdict says kept exactly when the set is accepted, the outcomes are 0 and 1 and the set keeps them, and lost at a job by a limit exactly as that is meant.
-module _ (set pattern : List ℕ) (r : Judgement) (judged : JudgedAs longest set pattern r) where
-  pub verdict-kept : (r ≡ Kept) ↔ ((first (judgeRows longest set pattern) ≡ passed) × KeptBy (setOf set) (outcomes pattern))
-  verdict-kept = (
-    λ e. (sym (judged .refusal) ∙ ap says e, subst (Verdict (setOf set) (outcomes pattern)) e (judged .verdict)),
+-- A verdict says kept exactly when the rows before it are passed and the set keeps the outcomes, and lost at a job by a limit exactly as that is meant.
+module _ (rows : List Row) (s : LimitSet) (p : List Bool) (r : Judgement) (judged : JudgedBy rows s p r) where
+  judged-kept : (r ≡ Kept) ↔ ((first rows ≡ passed) × KeptBy s p)
+  judged-kept = (
+    λ e. (sym (judged .refusal) ∙ ap says e, subst (Verdict s p) e (judged .verdict)),
     λ (a, k). go r (judged .refusal ∙ a) (judged .verdict) k,
   )
     where
-      go : (r : Judgement) → says r ≡ passed → Verdict (setOf set) (outcomes pattern) r → KeptBy (setOf set) (outcomes pattern) → r ≡ Kept
+      go : (r : Judgement) → says r ≡ passed → Verdict s p r → KeptBy s p → r ≡ Kept
       go Kept e v k = refl
-      go (Lost j i) e v k = absurd (kept-not-lost (setOf set) (outcomes pattern) j i k v)
+      go (Lost j i) e v k = absurd (kept-not-lost s p j i k v)
       go (Refused n u) e v k = absurd (passed-not-refused (sym e))
 
-  pub verdict-lost : (j i : ℕ) → (r ≡ Lost j i) ↔ ((first (judgeRows longest set pattern) ≡ passed) × LostAt (setOf set) (outcomes pattern) j i)
-  verdict-lost j i = (
-    λ e. (sym (judged .refusal) ∙ ap says e, subst (Verdict (setOf set) (outcomes pattern)) e (judged .verdict)),
+  judged-lost : (j i : ℕ) → (r ≡ Lost j i) ↔ ((first rows ≡ passed) × LostAt s p j i)
+  judged-lost j i = (
+    λ e. (sym (judged .refusal) ∙ ap says e, subst (Verdict s p) e (judged .verdict)),
     λ (a, l). go r (judged .refusal ∙ a) (judged .verdict) l,
   )
     where
-      go : (r : Judgement) → says r ≡ passed → Verdict (setOf set) (outcomes pattern) r → LostAt (setOf set) (outcomes pattern) j i → r ≡ Lost j i
-      go Kept e v l = absurd (kept-not-lost (setOf set) (outcomes pattern) j i v l)
+      go : (r : Judgement) → says r ≡ passed → Verdict s p r → LostAt s p j i → r ≡ Lost j i
+      go Kept e v l = absurd (kept-not-lost s p j i v l)
       go (Lost k m) e v l =
-          let same-job = lost-job (setOf set) (outcomes pattern) k m j i v l in
-          let same-limit = lost-limit (setOf set) (outcomes pattern) k m j i v l in
+          let same-job = lost-job s p k m j i v l in
+          let same-limit = lost-limit s p k m j i v l in
           cc
       go (Refused n u) e v l = absurd (passed-not-refused (sym e))
+
+-- The verdict on a pattern: the set is accepted and the outcomes are 0 and 1.
+module _ (set pattern : List ℕ) (r : Judgement) (judged : JudgedAs longest set pattern r) where
+  pub verdict-kept : (r ≡ Kept) ↔ ((first (judgeRows longest set pattern) ≡ passed) × KeptBy (setOf set) (outcomes pattern))
+  verdict-kept = judged-kept (judgeRows longest set pattern) (setOf set) (outcomes pattern) r judged
+
+  pub verdict-lost : (j i : ℕ) → (r ≡ Lost j i) ↔ ((first (judgeRows longest set pattern) ≡ passed) × LostAt (setOf set) (outcomes pattern) j i)
+  verdict-lost = judged-lost (judgeRows longest set pattern) (setOf set) (outcomes pattern) r judged
+
+-- The verdict on a night log: the set is accepted and the bytes are a log.
+module _ (set log : List ℕ) (r : Judgement) (judged : LogJudgedAs longest set log r) where
+  pub log-verdict-kept : (r ≡ Kept) ↔ ((first (logJudgeRows longest set log) ≡ passed) × KeptBy (setOf set) (outcomesOf log))
+  log-verdict-kept = judged-kept (logJudgeRows longest set log) (setOf set) (outcomesOf log) r judged
+
+  pub log-verdict-lost : (j i : ℕ) → (r ≡ Lost j i) ↔ ((first (logJudgeRows longest set log) ≡ passed) × LostAt (setOf set) (outcomesOf log) j i)
+  log-verdict-lost = judged-lost (logJudgeRows longest set log) (setOf set) (outcomesOf log) r judged
 
 -- The comparison says yes exactly when both sets are accepted and the first covers the second, and else its pattern is exactly the first one between them, of no more jobs than the longest window.
 module _ (a b : List ℕ) (r : Compared) (compared : ComparedAs longest a b r) where

@@ -18,6 +18,11 @@ use Rattle.sets.specs.Read.{says as read-says}
 use Rattle.verdict.specs.declared.Judgement.{Judgement}
 use Rattle.verdict.specs.declared.Judgement.the-variants as judge
 use Rattle.verdict.specs.Judge.{says as judge-says}
+use Rattle.night_log.specs.declared.OpenAnswer.{OpenAnswer}
+use Rattle.night_log.specs.declared.OpenAnswer.the-variants as opening
+use Rattle.night_log.specs.declared.LogAnswer.{LogAnswer}
+use Rattle.night_log.specs.declared.LogAnswer.the-variants as log
+use Rattle.night_log.specs.Read.{openSays, says as log-says}
 use Rattle.table.specs.declared.TableAnswer.{TableAnswer}
 use Rattle.table.specs.declared.TableAnswer.the-variants as check
 use Rattle.table.specs.Check.{says as check-says}
@@ -31,7 +36,7 @@ use Rattle.guard.specs.declared.AskAnswer.the-variants as ask
 use Rattle.guard.specs.declared.TellAnswer.{TellAnswer}
 use Rattle.guard.specs.declared.TellAnswer.the-variants as tell
 use Rattle.guard.specs.Guard.{startSays, askSays, tellSays}
-use Rattle.floelinnet.specs.Flat.{flatSet, flatSetOf, flatWritten, flatVerdict, flatBuilt, flatChecked, flatStart, flatAsk, flatTell}
+use Rattle.floelinnet.specs.Flat.{flatSet, flatSetOf, flatWritten, flatVerdict, flatBuilt, flatChecked, flatStart, flatAsk, flatTell, flatOpened, flatRead}
 use Rattle.demands.specs.Refusing.{RefusesFlat}
 use Rattle.demands.specs.Guarding.{ByKept, ByKeptFlat}
 use Rattle.demands.proofs.Refusing.{numberOf, atOf, refuses-flat}
@@ -81,6 +86,16 @@ ask-opens (ask.Refused n v) = (refl, refl)
 pub tell-opens : (a : TellAnswer) → Opens (tellSays a) (flatTell a .refused) (flatTell a .at)
 tell-opens tell.Told = (refl, refl)
 tell-opens (tell.Refused n v) = (refl, refl)
+
+pub opening-opens : (a : OpenAnswer) → Opens (openSays a) (flatOpened a .refused) (flatOpened a .at)
+opening-opens opening.Opened = (refl, refl)
+opening-opens (opening.Refused n v) = (refl, refl)
+
+pub read-opens : (a : LogAnswer) (place : ℕ) → Opens (log-says a) (flatRead a place .refused) (flatRead a place .at)
+read-opens log.Miss place = (refl, refl)
+read-opens log.Hit place = (refl, refl)
+read-opens log.End place = (refl, refl)
+read-opens (log.Refused n v) place = (refl, refl)
 
 -- a guard's answer by its field
 module _ (s : LimitSet) (p : List Bool) (a : AskAnswer) (answers : ByKept s p a) where

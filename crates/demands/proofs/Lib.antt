@@ -2,6 +2,7 @@ pub mod Demand1
 pub mod Demand2
 pub mod Demand3
 pub mod Boundary
+pub mod NightLog
 pub mod WorkedRows
 pub mod Tables
 pub mod Room

@@ -1,10 +1,11 @@
--- By which numbers writing a set, the verdict, a table, a guard's calls and a row's can be refused. Assumes nothing.
+-- By which numbers writing a set, the verdict, a night log, a table, a guard's calls and a row's can be refused. Assumes nothing.
 use mathlib.Core.Path.{_≡_, refl}
 use mathlib.Core.Logic.{_⊎_, inl, inr}
 use mathlib.Core.List.{List, [], _∷_}
 use Prim.Native.Nat.{ℕ, zero, suc}
 use native.Mathlib.Omega.{arith}
 use lib.Dec.{leb, ltb}
+use lib.ListN.{length}
 use Rattle.layout.specs.Refusal.{row}
 use Rattle.layout.specs.Write.{roomRow}
 use Rattle.layout.proofs.Rows.{Numbers, from-to, numbers-append, numbers-among}
@@ -14,6 +15,9 @@ use Rattle.sets.specs.Rows.{setRows, memoryRows}
 use Rattle.sets.specs.Write.{sizeOf, writeRows}
 use Rattle.sets.proofs.Numbers.{set-numbers, MemoryNumber, memory-numbers}
 use Rattle.verdict.specs.Judge.{judgeRows}
+use Rattle.night_log.specs.Bytes.{sizeOf as logSize}
+use Rattle.night_log.specs.Rows.{logRows, writeRows as logWriteRows}
+use Rattle.night_log.specs.Judge.{logJudgeRows}
 use Rattle.table.specs.Bytes.{stateCount}
 use Rattle.table.specs.Rows.{countRows, entryRows, entriesRows, tableRows, lookRows}
 use Rattle.guard.specs.declared.Guard.{Guard}
@@ -43,6 +47,29 @@ judge-numbers w b p =
     numbers-append JudgeNumber (setRows w b) (outcomeRows p 0)
     (numbers-among (from-to 1 7) JudgeNumber (λ n h. inl h) (setRows w b) (set-numbers w b))
     (numbers-among (λ n. n ≡ 13) JudgeNumber (λ n h. inr h) (outcomeRows p 0) (outcome-numbers p 0))
+
+-- a night log: 15 and 16; writing one: 9, 13, 15; judging one: 1 to 7, 15, 16
+pub log-numbers : (b : List ℕ) → Numbers (from-to 15 16) (logRows b)
+log-numbers b = ((omega arith, omega arith), ((omega arith, omega arith), ((omega arith, omega arith), ((omega arith, omega arith), tt))))
+
+abbrev pub LogWriteNumber : ℕ → Type 0
+LogWriteNumber n = (n ≡ 15) ⊎ ((n ≡ 13) ⊎ (n ≡ 9))
+
+pub log-write-numbers : (p out : List ℕ) → Numbers LogWriteNumber (logWriteRows p out)
+log-write-numbers p out = (
+  inl refl,
+  numbers-append LogWriteNumber (outcomeRows p 0) (roomRow out (logSize (length p)) ∷ [])
+      (numbers-among (λ n. n ≡ 13) LogWriteNumber (λ n h. inr (inl h)) (outcomeRows p 0) (outcome-numbers p 0)) (inr (inr refl), tt),
+)
+
+abbrev pub LogJudgeNumber : ℕ → Type 0
+LogJudgeNumber n = from-to 1 7 n ⊎ from-to 15 16 n
+
+pub log-judge-numbers : (w : ℕ) (set log : List ℕ) → Numbers LogJudgeNumber (logJudgeRows w set log)
+log-judge-numbers w set log =
+    numbers-append LogJudgeNumber (setRows w set) (logRows log)
+    (numbers-among (from-to 1 7) LogJudgeNumber (λ n h. inl h) (setRows w set) (set-numbers w set))
+    (numbers-among (from-to 15 16) LogJudgeNumber (λ n h. inr h) (logRows log) (log-numbers log))
 
 -- a table, and one of its states
 count-numbers : (b : List ℕ) → Numbers (from-to 10 12) (countRows b)

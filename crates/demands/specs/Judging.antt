@@ -1,4 +1,4 @@
--- RULES, Kept: "A set keeps the patterns that all of its limits keep, and no others." The same of the bytes of a set and of a pattern: the set is accepted, the outcomes are 0 and 1, and the set keeps them.
+-- RULES, Kept: "A set keeps the patterns that all of its limits keep, and no others." The same of the bytes of a set and of a pattern, that the set is accepted, the outcomes are 0 and 1, and the set keeps them; and of the bytes of a set and of a night log.
 use mathlib.Core.Path.{_≡_}
 use mathlib.Core.List.{List}
 use Prim.Native.Nat.{ℕ, _≤_, _<_}
@@ -9,8 +9,15 @@ use Rattle.meaning.specs.Longest.{longest}
 use Rattle.meaning.specs.Sets.{KeptBy}
 use Rattle.sets.specs.Bytes.{setOf}
 use Rattle.sets.specs.Rows.{setRows}
+use Rattle.night_log.specs.Bytes.{outcomesOf}
+use Rattle.night_log.specs.Rows.{logRows}
 
 pub record Keeps (set pattern : List ℕ) : Type 0 where
   pub accepted : first (setRows longest set) ≡ passed
   pub outcomes-are-0-and-1 : (i : ℕ) → i < length pattern → getD pattern i 0 ≤ 1
   pub kept : KeptBy (setOf set) (outcomes pattern)
+
+pub record KeepsLog (set log : List ℕ) : Type 0 where
+  pub accepted : first (setRows longest set) ≡ passed
+  pub is-log : first (logRows log) ≡ passed
+  pub kept : KeptBy (setOf set) (outcomesOf log)

@@ -1,4 +1,4 @@
--- RULES, What each entry tests: opening a log, "15, 16", and else "place 0"; the reader's next call, "15, 16", and else the outcome at its place, with the next place, or past the last outcome "end, with its place as it was".
+-- RULES, What each entry tests: opening a log, "15, 16", and else "place 0"; a call of the reader, "15, 16", and else "the outcome at its place, and the next place; past the last outcome end, and the place as it was".
 use mathlib.Core.Path.{_≡_}
 use mathlib.Core.Bool.{Bool, true, false}
 use mathlib.Core.List.{List}

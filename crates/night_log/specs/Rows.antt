@@ -22,7 +22,7 @@ unusedBits n = 8 * packedSize n - n
 abbrev pub unusedIn : List ℕ → ℕ
 unusedIn b = byteAt b (8 + packedSize (countOf b)) % 2 ^ unusedBits (countOf b)
 
--- "under 9 bytes, or its length field isn't how many bytes follow it, or its version isn't 1, or its length field isn't 5 and the bytes that its count of outcomes takes"; then "unused bits that aren't zero"
+-- "the log has under 9 bytes, or its length field isn't how many bytes follow it, or its version isn't 1, or its length field isn't 5 and the bytes that its count of outcomes takes"; then "bits of the log that no outcome takes aren't zero"
 abbrev pub logRows : List ℕ → List Row
 logRows b =
     headRows 9 15 15 b

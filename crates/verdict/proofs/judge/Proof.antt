@@ -1,22 +1,16 @@
 -- `verdict::judge`: each refusal is the first row that holds, and what is left is what `judge_outcomes` ensures. Assumes nothing.
-use mathlib.Core.Path.{_≡_, refl, sym, ap₂, _∙_, subst}
-use mathlib.Core.List.{List}
-use Prim.Native.Nat.{ℕ}
+use mathlib.Core.Path.{_≡_, sym, _∙_, subst}
 use borrow.Author.Needs.{needs}
 use borrow.Author.Tests.{lt-ltb, le-ltb}
-use Rattle.layout.specs.Refusal.{Tested, first}
-use Rattle.layout.proofs.Rows.{and-then, first-append}
+use Rattle.layout.specs.Refusal.{first}
+use Rattle.layout.proofs.Rows.{refused-before, passed-before}
 use Rattle.patterns.specs.Outcome.{outcomes, outcomeRows}
 use Rattle.meaning.specs.Longest.{longest}
 use Rattle.sets.specs.Rows.{setRows}
 use Rattle.sets.proofs.Reading.{refused-rows, accepted-rows, accepted-set, accepted-set-allowed}
-use Rattle.verdict.specs.Judge.{Verdict, judgeRows}
+use Rattle.verdict.specs.Judge.{Verdict}
 use Rattle.verdict.proofs.judge.Statement.{statement}
 use Rattle.verdict.proofs.judge.Tie as tie
-
--- the set's rows and then the pattern's
-rows : (set pattern : List ℕ) (t u : Tested) → first (setRows longest set) ≡ t → first (outcomeRows pattern 0) ≡ u → first (judgeRows longest set pattern) ≡ and-then t u
-rows set pattern t u e f = first-append (setRows longest set) (outcomeRows pattern 0) ∙ ap₂ and-then e f
 
 read-set-requires : tie.Need-read-set-requires
 read-set-requires c κs = search needs
@@ -29,7 +23,7 @@ returns c =
     let r = c .before .before .before in
     let s = r .before .before .before .args in
     record {
-      refusal = sym (rows (s .set .now) (s .pattern .now) _ _ (refused-rows longest (s .set .now) (r .read-set .result) (r .read-set .ensures) _ _ (c .before .answer .given .1)) refl);
+      refusal = sym (refused-before (setRows longest (s .set .now)) (outcomeRows (s .pattern .now) 0) (refused-rows longest (s .set .now) (r .read-set .result) (r .read-set .ensures) _ _ (c .before .answer .given .1)));
       verdict = tt;
     }
 
@@ -45,8 +39,8 @@ returns-2 c =
     let r = t .before .before in
     let s = r .before .before .before .args in
     record {
-      refusal = sym (rows (s .set .now) (s .pattern .now) _ _ (accepted-rows longest (s .set .now) (r .read-set .result) (r .read-set .ensures) (t .enum-told .given .1))
-          (c .before .first-bad .ensures .1 ∙ simp (lt-ltb _ _ (c .if1 .taken))));
+      refusal = sym (passed-before (setRows longest (s .set .now)) (outcomeRows (s .pattern .now) 0) (accepted-rows longest (s .set .now) (r .read-set .result) (r .read-set .ensures) (t .enum-told .given .1))
+          ∙ c .before .first-bad .ensures .1 ∙ simp (lt-ltb _ _ (c .if1 .taken)));
       verdict = tt;
     }
 
@@ -67,7 +61,7 @@ returns-3 c =
     let e = t .enum-told .given .1 in
     record {
       refusal = c .judge-outcomes .ensures .refusal
-          ∙ sym (rows b p _ _ (accepted-rows longest b (r .read-set .result) (r .read-set .ensures) e) (c .before .before .first-bad .ensures .1 ∙ simp (le-ltb _ _ (c .before .if1 .left))));
+          ∙ sym (passed-before (setRows longest b) (outcomeRows p 0) (accepted-rows longest b (r .read-set .result) (r .read-set .ensures) e) ∙ c .before .before .first-bad .ensures .1 ∙ simp (le-ltb _ _ (c .before .if1 .left)));
       verdict = subst (λ z. Verdict z (outcomes p) (c .judge-outcomes .result)) (accepted-set longest b (r .read-set .result) (r .read-set .ensures) e) (c .judge-outcomes .ensures .verdict);
     }
 

@@ -1,26 +1,21 @@
 -- `night_log::judge::judge_log` meets its contract: each refusal is the first row that holds, and what is left is what `judge_packed` ensures. Assumes nothing.
-use mathlib.Core.Path.{_≡_, refl, sym, ap, ap₂, _∙_, subst}
+use mathlib.Core.Path.{_≡_, sym, ap, _∙_, subst}
 use mathlib.Core.List.{List}
 use Prim.Native.Nat.{ℕ}
 use native.Mathlib.Omega.{arith}
 use borrow.Author.Needs.{needs}
-use Rattle.layout.specs.Refusal.{Tested, passed, first}
+use Rattle.layout.specs.Refusal.{passed, first}
 use Rattle.layout.proofs.Head.{some-fault, no-fault}
-use Rattle.layout.proofs.Rows.{and-then, first-append}
+use Rattle.layout.proofs.Rows.{refused-before, passed-before}
 use Rattle.meaning.specs.Longest.{longest}
 use Rattle.sets.specs.Rows.{setRows}
 use Rattle.sets.proofs.Reading.{refused-rows, accepted-rows, accepted-set, accepted-set-allowed}
 use Rattle.verdict.specs.Judge.{Verdict}
 use Rattle.night_log.specs.Bytes.{sizeOf, outcomesOf}
 use Rattle.night_log.specs.Rows.{logRows}
-use Rattle.night_log.specs.Judge.{logJudgeRows}
 use Rattle.night_log.proofs.Accepted.{Log, accepted-log}
 use Rattle.night_log.proofs.judge.judge_log.Statement.{statement}
 use Rattle.night_log.proofs.judge.judge_log.Tie as tie
-
--- the set's rows and then the log's
-rows : (set log : List ℕ) (t u : Tested) → first (setRows longest set) ≡ t → first (logRows log) ≡ u → first (logJudgeRows longest set log) ≡ and-then t u
-rows set log t u e f = first-append (setRows longest set) (logRows log) ∙ ap₂ and-then e f
 
 -- past the set's tests
 module _ (c : tie.After-enum-told) where
@@ -58,7 +53,7 @@ returns c =
     let r = c .before .before .before in
     let s = r .before .before .before .args in
     record {
-      refusal = sym (rows (s .set .now) (s .log .now) _ _ (refused-rows longest (s .set .now) (r .read-set .result) (r .read-set .ensures) _ _ (c .before .answer .given .1)) refl);
+      refusal = sym (refused-before (setRows longest (s .set .now)) (logRows (s .log .now)) (refused-rows longest (s .set .now) (r .read-set .result) (r .read-set .ensures) _ _ (c .before .answer .given .1)));
       verdict = tt;
     }
 
@@ -73,7 +68,7 @@ returns-2 c =
     let f = c .before in
     let n = f .fault .result in
     record {
-      refusal = sym (rows (set (f .before)) (log (f .before)) _ _ (set-rows (f .before)) (f .fault .ensures ∙ some-fault n 0 (omega (arith, c .if1 .taken))));
+      refusal = sym (passed-before (setRows longest (set (f .before))) (logRows (log (f .before))) (set-rows (f .before)) ∙ f .fault .ensures ∙ some-fault n 0 (omega (arith, c .if1 .taken)));
       verdict = tt;
     }
 
@@ -96,7 +91,7 @@ returns-3 c =
     let d = c .before .before in
     let t = e d in
     record {
-      refusal = c .judge-packed .ensures .refusal ∙ sym (rows (set t) (log t) _ _ (set-rows t) (log-rows d));
+      refusal = c .judge-packed .ensures .refusal ∙ sym (passed-before (setRows longest (set t)) (logRows (log t)) (set-rows t) ∙ log-rows d);
       verdict = subst (λ z. Verdict z (outcomesOf (log t)) (c .judge-packed .result)) (accepted-set longest (set t) (r t .read-set .result) (r t .read-set .ensures) (t .enum-told .given .1)) (c .judge-packed .ensures .verdict);
     }
 

@@ -9,7 +9,7 @@ use lib.ListN.{length, take, drop, length-map}
 use Rattle.layout.specs.declared.WriteAnswer.{WriteAnswer}
 use Rattle.layout.specs.Refusal.{Tested, passed, refused, first}
 use Rattle.layout.specs.Write.{roomRow, says, lengthOf, lengthWhen, bufferWhen}
-use Rattle.layout.proofs.Rows.{and-then, first-here, first-skip, first-append}
+use Rattle.layout.proofs.Rows.{first-here, first-skip, too-short, long-enough, refused-before, passed-before}
 use Rattle.layout.proofs.Runs.{put-next}
 use Rattle.layout.proofs.Write.{written-by}
 use Rattle.patterns.specs.Outcome.{outcome, outcomes, outcomeRows}
@@ -20,14 +20,12 @@ use Rattle.night_log.proofs.write.write_log.Statement.{statement}
 use Rattle.night_log.proofs.write.write_log.Tie as tie
 
 module _ (pattern out : List ℕ) where
-  -- the three rows one after the other
+  -- 15, and what comes after it
   many : mostOutcomes < length pattern → first (writeRows pattern out) ≡ refused 15 0
   many h = first-here 15 0 _ _ (lt-ltb _ _ h)
 
-  rows : length pattern ≤ mostOutcomes → (t : Tested) → first (outcomeRows pattern 0) ≡ t → first (writeRows pattern out) ≡ and-then t (first (roomRow out (sizeOf (length pattern)) ∷ []))
-  rows h t e =
-      first-skip 15 0 _ _ (le-ltb _ _ h) ∙ first-append (outcomeRows pattern 0) (roomRow out (sizeOf (length pattern)) ∷ [])
-      ∙ ap (λ z. and-then z (first (roomRow out (sizeOf (length pattern)) ∷ []))) e
+  few-rows : length pattern ≤ mostOutcomes → first (writeRows pattern out) ≡ first (outcomeRows pattern 0 ++ (roomRow out (sizeOf (length pattern)) ∷ []))
+  few-rows h = first-skip 15 0 _ _ (le-ltb _ _ h)
 
   written : (t : Tested) (out′ : List ℕ) (r : WriteAnswer) → first (writeRows pattern out) ≡ t → says r ≡ t → lengthOf r ≡ lengthWhen t (sizeOf (length pattern))
       → out′ ≡ bufferWhen t (sizeOf (length pattern)) (logOf (outcomes pattern)) out → LogWrittenAs pattern out out′ r
@@ -48,7 +46,7 @@ module _ (c : tie.Else2) where
   few = omega (arith, c .before .before .if1 .left)
 
   at-room : first (writeRows pattern out) ≡ first (roomRow out (sizeOf (length pattern)) ∷ [])
-  at-room = rows pattern out few passed (c .before .first-bad .ensures .1 ∙ (simp (le-ltb _ _ (c .if2 .left))))
+  at-room = few-rows pattern out few ∙ passed-before (outcomeRows pattern 0) (roomRow out (sizeOf (length pattern)) ∷ []) (c .before .first-bad .ensures .1 ∙ (simp (le-ltb _ _ (c .if2 .left))))
 
 -- the length needed
 sized : (c : tie.After-packed-size) → 9 + c .packed-size .result ≡ sizeOf (length (pattern (c .before)))
@@ -65,7 +63,8 @@ returns-2 c =
     let b = c .before in
     let s = b .before .before .before .before .args in
     written (s .pattern .now) (s .out .now) (refused 13 (b .first-bad .result)) _ _
-    (rows (s .pattern .now) (s .out .now) (omega (arith, b .before .if1 .left)) (refused 13 (b .first-bad .result)) (b .first-bad .ensures .1 ∙ (simp (lt-ltb _ _ (c .if2 .taken))))) refl refl refl
+    (few-rows (s .pattern .now) (s .out .now) (omega (arith, b .before .if1 .left))
+    ∙ refused-before (outcomeRows (s .pattern .now) 0) (roomRow (s .out .now) (sizeOf (length (s .pattern .now))) ∷ []) (b .first-bad .ensures .1 ∙ (simp (lt-ltb _ _ (c .if2 .taken))))) refl refl refl
 
 packed-size-requires : tie.Need-packed-size-requires
 packed-size-requires c κs = search needs
@@ -78,7 +77,7 @@ returns-3 c =
     let d = c .before in
     let e = d .before in
     let n = sizeOf (length (pattern e)) in
-    written (pattern e) (out e) (refused 9 n) _ _ (at-room e ∙ first-here 9 n _ [] (lt-ltb (length (out e)) n (omega (arith, sized d, c .if3 .taken)))) (ap (refused 9) (sized d)) refl refl
+    written (pattern e) (out e) (refused 9 n) _ _ (at-room e ∙ too-short 9 n (length (out e)) n (omega (arith, sized d, c .if3 .taken))) (ap (refused 9) (sized d)) refl refl
 
 put-head-requires : tie.Need-put-head-requires
 put-head-requires c κs = let d = c .before .before in (omega (arith, few (d .before)), omega (arith, c .before .if3 .left))
@@ -103,7 +102,7 @@ returns-4 c =
     let n = length (pattern e) in
     let p = outcomes (pattern e) in
     let v = packed p 0 (packedSize n) in
-    written (pattern e) (out e) passed _ _ (at-room e ∙ first-skip 9 (sizeOf n) _ [] (le-ltb (length (out e)) (sizeOf n) (omega (arith, sized d, i .if3 .left)))) refl (sized d)
+    written (pattern e) (out e) passed _ _ (at-room e ∙ long-enough 9 (sizeOf n) (length (out e)) (sizeOf n) (omega (arith, sized d, i .if3 .left))) refl (sized d)
     (o .put-outcomes .ensures
     ∙ ap (λ z. take 9 z ++ v ++ drop (9 + packedSize n) z) (h .put-head .ensures)
     ∙ put-next (out e) (headBytes n) v 9 (packedSize n) refl
