@@ -1,13 +1,13 @@
 -- The demands for the night log. Demand 1: each entry is refused exactly by the first row that holds, by no number but its own, and a refusal leaves the buffer, the place and the reader as they were; the same in the boundary's fields `refused` and `at`. Demand 2 in the fields that a caller goes by: `kept` is 1 exactly where the set is accepted, the bytes are a log and the set keeps its outcomes; `answer` and `place` of a call are those of the outcome at the place. (What was written is read back: `night_log/proofs/Stored`; judging is judging the outcomes as bytes: `night_log/proofs/Judged`.) Assumes nothing.
 use mathlib.Core.Path.{_≡_, refl, sym, ap, ap₂, _∙_, subst}
-use mathlib.Core.Logic.{_↔_, _⊎_, ⊎-elim, Iff·trans}
-use mathlib.Core.Bool.{Bool, true, false, cond}
+use mathlib.Core.Logic.{_↔_, _⊎_, ⊎-elim, dite, Iff·trans}
+use mathlib.Core.Bool.{Bool, true, false, true≢false}
 use mathlib.Core.List.{List}
-use Prim.Native.Nat.{ℕ, _+_, _≤_, _<_}
+use Prim.Native.Nat.{ℕ, _≤_, _<_}
 use native.Mathlib.Omega.{arith}
-use borrow.Author.Tests.{ltb-true, ltb-false}
+use native.Mathlib.Decide.{decLt}
+use borrow.Author.Tests.{lt-ltb, le-ltb}
 use denote.Ref.{now}
-use lib.Dec.{ltb}
 use lib.ListN.{length}
 use Rattle.layout.specs.declared.WriteAnswer.{WriteAnswer}
 use Rattle.layout.specs.declared.WriteAnswer.the-variants as write
@@ -32,13 +32,12 @@ use Rattle.night_log.specs.Read.{OpenedAs, HandsOut, ReadAs}
 use Rattle.night_log.specs.Write.{LogWrittenAs}
 use Rattle.night_log.specs.Judge.{logJudgeRows, LogJudgedAs}
 use Rattle.night_log.specs.Reader.{NextAs}
-use Rattle.night_log.specs.Calls.{answerOf}
 use Rattle.night_log.proofs.OneResult.{gives, readWhen, read-known}
 use Rattle.floelinnet.specs.declared.FloeWritten.{FloeWritten}
 use Rattle.floelinnet.specs.declared.FloeVerdict.{FloeVerdict}
 use Rattle.floelinnet.specs.declared.FloeLogOpened.{FloeLogOpened}
 use Rattle.floelinnet.specs.declared.FloeLogRead.{FloeLogRead}
-use Rattle.floelinnet.specs.Flat.{FlatAnswer, flatWritten, flatVerdict, flatOpened, flatRead, flatLogRead}
+use Rattle.floelinnet.specs.Flat.{FlatAnswer, flatWritten, flatVerdict, flatOpened, flatLogRead}
 use Rattle.demands.specs.Refusing.{Refuses, RefusesFlat}
 use Rattle.demands.specs.Judging.{KeepsLog}
 use Rattle.demands.specs.Reading.{ByOutcomes}
@@ -100,9 +99,54 @@ module _ (b : List ℕ) (f : FloeLogOpened) (flat : FlatAnswer (OpenedAs b) flat
       go opening.Opened = refl
       go (opening.Refused n v) = refl
 
+-- what a call answers at a place of the outcomes p
+hands-out : (p : List Bool) (i : ℕ) → ByOutcomes p i (flatLogRead (readWhen passed p i) .answer) (flatLogRead (readWhen passed p i) .place)
+hands-out p i = dite (decLt i (length p)) (λ h. there h (outcomeAt p i) refl) past
+  where
+    there : i < length p → (o : Bool) → outcomeAt p i ≡ o → ByOutcomes p i (flatLogRead (readWhen passed p i) .answer) (flatLogRead (readWhen passed p i) .place)
+    there h true e = rw (lt-ltb i (length p) h, e) (record {
+      miss = (λ z. absurd (omega arith), λ (_, z). absurd (true≢false (sym e ∙ z)));
+      hit = (λ z. (h, e), λ z. refl);
+      end = (λ z. absurd (omega arith), λ z. absurd (omega arith));
+      goes-on = λ z. refl;
+      stays = λ z. absurd (omega arith);
+    })
+    there h false e = rw (lt-ltb i (length p) h, e) (record {
+      miss = (λ z. (h, e), λ z. refl);
+      hit = (λ z. absurd (omega arith), λ (_, z). absurd (true≢false (sym z ∙ e)));
+      end = (λ z. absurd (omega arith), λ z. absurd (omega arith));
+      goes-on = λ z. refl;
+      stays = λ z. absurd (omega arith);
+    })
+
+    past : (i < length p → ⊥) → ByOutcomes p i (flatLogRead (readWhen passed p i) .answer) (flatLogRead (readWhen passed p i) .place)
+    past h = rw (le-ltb i (length p) (omega arith)) (record {
+      miss = (λ z. absurd (omega arith), λ (z, _). absurd (h z));
+      hit = (λ z. absurd (omega arith), λ (z, _). absurd (h z));
+      end = (λ z. omega arith, λ z. refl);
+      goes-on = λ z. absurd (h z);
+      stays = λ z. refl;
+    })
+
 module _ (b : List ℕ) (place : ℕ) (f : FloeLogRead) (flat : FlatAnswer (ReadAs b place) flatLogRead f) where
   pub floe-log-next-refuses : RefusesFlat (from-to 15 16) (first (logRows b)) (f .refused) (f .at)
   floe-log-next-refuses = rw (flat .2) (opens-refuses (from-to 15 16) (logRows b) from-15 (log-numbers b) (read-opens (flat .0 .answer) (flat .0 .place)) (flat .1 .refusal))
+
+  -- the record, by what the tests say and by the outcomes
+  known : f ≡ flatLogRead (readWhen (first (logRows b)) (outcomesOf b) place)
+  known = flat .2 ∙ ap flatLogRead (read-known b place (flat .0) (flat .1))
+
+  -- a refusal is answered by 3 and keeps the place
+  pub floe-log-next-refused : (n v : ℕ) → first (logRows b) ≡ refused n v → (f .answer ≡ 3) × (f .place ≡ place)
+  floe-log-next-refused n v e =
+      let q = known ∙ ap (λ t. flatLogRead (readWhen t (outcomesOf b) place)) e in
+      (ap (λ z. z .answer) q, ap (λ z. z .place) q)
+
+  -- and on a log the answer is that of the outcome at the place
+  pub floe-log-next-hands-out : first (logRows b) ≡ passed → ByOutcomes (outcomesOf b) place (f .answer) (f .place)
+  floe-log-next-hands-out e =
+      let q = known ∙ ap (λ t. flatLogRead (readWhen t (outcomesOf b) place)) e in
+      rw (ap (λ z. z .answer) q, ap (λ z. z .place) q) (hands-out (outcomesOf b) place)
 
 pub floe-log-judge-refuses : (set b : List ℕ) (f : FloeVerdict) → FlatAnswer (LogJudgedAs longest set b) flatVerdict f → RefusesFlat LogJudgeNumber (first (logJudgeRows longest set b)) (f .refused) (f .at)
 floe-log-judge-refuses set b f (a, judged, e) =

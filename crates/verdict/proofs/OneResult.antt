@@ -1,8 +1,9 @@
--- A verdict's promise allows one result: a refusal is the row that holds, kept and lost exclude each other, and a pattern is lost at one job by one limit. Assumes nothing.
-use mathlib.Core.Path.{_≡_, refl, sym, ap₂, _∙_}
-use mathlib.Core.Bool.{Bool}
+-- The promises of a verdict and of a turn allow one result: a refusal is the row that holds, kept and lost exclude each other, and a pattern is lost at one job by one limit. Assumes nothing.
+use mathlib.Core.Path.{_≡_, refl, sym, ap, ap₂, _∙_}
+use mathlib.Core.Bool.{Bool, true, false}
 use mathlib.Core.List.{List}
 use Prim.Native.Nat.{ℕ}
+use native.Mathlib.Omega.{arith}
 use Rattle.layout.specs.Refusal.{Row}
 use Rattle.layout.proofs.Rows.{passed-not-refused}
 use Rattle.patterns.specs.Outcome.{outcomes}
@@ -11,6 +12,10 @@ use Rattle.meaning.proofs.Unique.{kept-not-lost, lost-job, lost-limit}
 use Rattle.sets.specs.Bytes.{setOf}
 use Rattle.verdict.specs.declared.Judgement.{Judgement}
 use Rattle.verdict.specs.declared.Judgement.the-variants.{Kept, Lost, Refused}
+use Rattle.history.proofs.OneResult.{blocks-one-result}
+use Rattle.verdict.specs.declared.Turn.{Turn}
+use Rattle.verdict.specs.declared.Turn.the-variants as turn
+use Rattle.verdict.specs.Turn.{Turned}
 use Rattle.verdict.specs.Judge.{says, Verdict, JudgedBy, judgeRows, JudgedAs}
 
 same : (s : LimitSet) (p : List Bool) (r t : Judgement) → says r ≡ says t → Verdict s p r → Verdict s p t → r ≡ t
@@ -29,3 +34,12 @@ judged-one-result rows s p r t a b = same s p r t (a .refusal ∙ sym (b .refusa
 
 pub judge-one-result : (widest : ℕ) (set pattern : List ℕ) (r t : Judgement) → JudgedAs widest set pattern r → JudgedAs widest set pattern t → r ≡ t
 judge-one-result widest set pattern = judged-one-result (judgeRows widest set pattern) (setOf set) (outcomes pattern)
+
+pub take-turn-one-result : (s : LimitSet) (h : ℕ) (o : Bool) (r t : Turn) → Turned s h o r → Turned s h o t → r ≡ t
+take-turn-one-result s h true (turn.Kept a) (turn.Kept b) p q = ap turn.Kept (p ∙ sym q)
+take-turn-one-result s h true (turn.Kept a) (turn.Lost b) p q = absurd q
+take-turn-one-result s h true (turn.Lost a) t p q = absurd p
+take-turn-one-result s h false (turn.Kept a) (turn.Kept b) (_, p) (_, q) = ap turn.Kept (p ∙ sym q)
+take-turn-one-result s h false (turn.Kept a) (turn.Lost b) (p, _) (q, l) = absurd (omega (arith, blocks-one-result s h (s .count) b p q))
+take-turn-one-result s h false (turn.Lost a) (turn.Kept b) (p, l) (q, _) = absurd (omega (arith, blocks-one-result s h a (s .count) p q))
+take-turn-one-result s h false (turn.Lost a) (turn.Lost b) (p, _) (q, _) = ap turn.Lost (blocks-one-result s h a b p q)

@@ -1,5 +1,5 @@
--- What one more outcome does to a pattern that is kept so far: a hit keeps it, a miss that no limit blocks keeps it, and a miss that limit i blocks first loses it at that job by that limit. Assumes nothing.
-use mathlib.Core.Path.{_≡_, sym, ap, _∙_, subst}
+-- What a turn does to a pattern that stands so far: where it is kept, one outcome more stands, and where it is lost, the pattern is lost at that job by that limit. Assumes nothing.
+use mathlib.Core.Path.{_≡_, refl, sym, ap, _∙_, subst}
 use mathlib.Core.Bool.{Bool, true, false}
 use mathlib.Core.List.{List, [], _∷_, _++_}
 use Prim.Native.Nat.{ℕ, _+_, _-_, _^_, _<_, _≤_}
@@ -8,7 +8,6 @@ use native.Mathlib.Omega.{arith}
 use lib.Dec.{T}
 use lib.ListN.{length, getD, take}
 use lib.Seq.{take-take, take-suc, take-all}
-use Rattle.layout.specs.Refusal.{first}
 use Rattle.meaning.specs.declared.LimitSet.{LimitSet}
 use Rattle.meaning.specs.Kept.{Kept}
 use Rattle.meaning.specs.Longest.{longest}
@@ -20,7 +19,8 @@ use Rattle.history.specs.MayMiss.{Blocks, mayMissUnder}
 use Rattle.history.proofs.Histories.{history-push, history-start}
 use Rattle.history.proofs.MissLaws.{decides-under, may-miss-kept}
 use Rattle.history.proofs.Blocking.{none-blocks}
-use Rattle.verdict.specs.Turn.{Stands}
+use Rattle.verdict.specs.declared.Turn.the-variants as turn
+use Rattle.verdict.specs.Turn.{Turned, Stands}
 
 abbrev m : ℕ
 m = longest - 1
@@ -37,40 +37,39 @@ module _ (s : LimitSet) (ok : SetAllowed longest s) (p : List Bool) (i h : ℕ) 
   next-is o e = ap (λ z. take z p) (add-one i) ∙ take-suc p i false l ∙ ap {B = List Bool} (λ z. take i p ++ z ∷ []) e
 
   -- the history is pushed, and what is kept is said
-  goes-on : (o : Bool) → getD p i false ≡ o → (h′ : ℕ) → h′ ≡ pushed m h o → h′ < 2 ^ m → KeptBy s (take i p ++ o ∷ []) → Stands s p (i + 1) h′
-  goes-on o e h′ q w k = record {
+  goes-on : (o : Bool) → getD p i false ≡ o → (h′ : ℕ) → h′ ≡ pushed m h o → KeptBy s (take i p ++ o ∷ []) → Stands s p (i + 1) h′
+  goes-on o e h′ q k = record {
     kept = subst (λ z. KeptBy s z) (sym (next-is o e)) k;
     history = q ∙ ap (λ z. pushed m z o) (stands .history) ∙ sym (history-push m (take i p) o) ∙ ap (historyOf m) (sym (next-is o e));
-    within = w;
+    within = omega (arith, q);
   }
 
-  pub hit-turn : (o : Bool) → getD p i false ≡ o → o ≡ true → (h′ : ℕ) → h′ ≡ pushed m h o → h′ < 2 ^ m → Stands s p (i + 1) h′
-  hit-turn o next hit h′ q w = goes-on o next h′ q w (subst (λ z. KeptBy s (take i p ++ z ∷ [])) (sym hit) (kept-by-hit s (take i p) (stands .kept)))
+  pub turned-kept : (o : Bool) → getD p i false ≡ o → (h′ : ℕ) → Turned s h o (turn.Kept h′) → Stands s p (i + 1) h′
+  turned-kept true e h′ q = goes-on true e h′ q (kept-by-hit s (take i p) (stands .kept))
+  turned-kept false e h′ (blocks, q) =
+      goes-on false e h′ q
+      (may-miss-kept m (take i p) s ok (stands .kept) .0 (T-of _ (none-blocks s (historyOf m (take i p)) (s .count) (subst (λ z. Blocks s z (s .count)) (stands .history) blocks) refl)))
 
-  module _ (o : Bool) (next : getD p i false ≡ o) (miss : o ≡ false) (n : ℕ) (blocks : Blocks s h n) where
-    after : take (i + 1) p ≡ take i p ++ false ∷ []
-    after = next-is false (next ∙ miss)
-
-    pub miss-turn : n ≡ s .count → (h′ : ℕ) → h′ ≡ pushed m h o → h′ < 2 ^ m → Stands s p (i + 1) h′
-    miss-turn c h′ q w =
-        goes-on o next h′ q w (subst (λ z. KeptBy s (take i p ++ z ∷ [])) (sym miss)
-        (may-miss-kept m (take i p) s ok (stands .kept) .0 (T-of _ (none-blocks s (historyOf m (take i p)) n (subst (λ z. Blocks s z n) (stands .history) blocks) c))))
-
+  module _ (miss : getD p i false ≡ false) (n : ℕ) (blocks : Blocks s h n) where
     -- what limit j says of the miss
     decided : (j : ℕ) → j < s .count → T (mayMissUnder (ruleAt s j) h) → Kept (ruleAt s j) (take (i + 1) p)
     decided j lt t =
-        subst (λ z. Kept (ruleAt s j) z) (sym after)
+        subst (λ z. Kept (ruleAt s j) z) (sym (next-is false miss))
         (decides-under m (take i p) (ruleAt s j) (ok .each j lt .rule-allowed) (stands .kept j lt) .0 (subst (λ z. T (mayMissUnder (ruleAt s j) z)) (stands .history) t))
 
     blocked : (j : ℕ) (lt : j < s .count) → mayMissUnder (ruleAt s j) h ≡ false → Kept (ruleAt s j) (take (i + 1) p) → ⊥
     blocked j lt f g =
         subst (λ z. T z) (ap (mayMissUnder (ruleAt s j)) (sym (stands .history)) ∙ f)
-        (decides-under m (take i p) (ruleAt s j) (ok .each j lt .rule-allowed) (stands .kept j lt) .1 (subst (λ z. Kept (ruleAt s j) z) after g))
+        (decides-under m (take i p) (ruleAt s j) (ok .each j lt .rule-allowed) (stands .kept j lt) .1 (subst (λ z. Kept (ruleAt s j) z) (next-is false miss) g))
 
-    pub lost-turn : n < s .count → LostAt s p (i + 1) n
-    lost-turn lt = record {
+    lost-here : n < s .count → LostAt s p (i + 1) n
+    lost-here lt = record {
       lost = λ g. blocked n lt (blocks .here lt) (g n lt);
       shortest = λ j k. subst (λ z. KeptBy s z) (take-take j i p (omega arith)) (kept-by-take s j (take i p) (stands .kept));
       breaks = blocked n lt (blocks .here lt);
       lowest = λ j k. decided j (omega arith) (T-of _ (blocks .before j k));
     }
+
+  pub turned-lost : (o : Bool) → getD p i false ≡ o → (n : ℕ) → Turned s h o (turn.Lost n) → LostAt s p (i + 1) n
+  turned-lost true e n t = absurd t
+  turned-lost false e n (blocks, lt) = lost-here e n blocks lt

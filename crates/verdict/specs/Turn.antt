@@ -1,23 +1,25 @@
--- What one more outcome does to a pattern that is kept so far. RULES, Lost: "Of its beginnings that aren't kept the shortest has j jobs".
+-- What one more outcome does to a history. RULES, Lost: "among those that don't keep this beginning, the one with the lowest number": a hit keeps, and a miss is blocked by limit n first or by none.
 use mathlib.Core.Path.{_≡_}
-use mathlib.Core.Bool.{Bool, false}
+use mathlib.Core.Bool.{Bool, true, false}
 use mathlib.Core.List.{List}
-use Prim.Native.Nat.{ℕ, _+_, _-_, _^_, _<_}
-use lib.ListN.{length, getD, take}
+use Prim.Native.Nat.{ℕ, _-_, _^_, _<_}
+use lib.ListN.{take}
 use Rattle.meaning.specs.declared.LimitSet.{LimitSet}
 use Rattle.meaning.specs.Longest.{longest}
-use Rattle.meaning.specs.Sets.{KeptBy, LostAt}
-use Rattle.history.specs.History.{historyOf}
+use Rattle.meaning.specs.Sets.{KeptBy}
+use Rattle.history.specs.History.{historyOf, pushed}
+use Rattle.history.specs.MayMiss.{Blocks}
 use Rattle.verdict.specs.declared.Turn.{Turn}
 use Rattle.verdict.specs.declared.Turn.the-variants.{Kept, Lost}
 
--- the first i outcomes are kept, and h is their history
+abbrev pub Turned : LimitSet → (h : ℕ) → Bool → Turn → Type 0
+Turned s h true (Kept h′) = h′ ≡ pushed (longest - 1) h true
+Turned s h true (Lost n) = ⊥
+Turned s h false (Kept h′) = Blocks s h (s .count) × (h′ ≡ pushed (longest - 1) h false)
+Turned s h false (Lost n) = Blocks s h n × (n < s .count)
+
+-- where a judge stands in a pattern: the first i outcomes are kept, and h is their history
 pub record Stands (s : LimitSet) (p : List Bool) (i h : ℕ) : Type 0 where
   pub kept : KeptBy s (take i p)
   pub history : h ≡ historyOf (longest - 1) (take i p)
   pub within : h < 2 ^ (longest - 1)
-
--- of every pattern that stands so with outcome o next
-abbrev pub Turned : LimitSet → (h : ℕ) → Bool → Turn → Type 0
-Turned s h o (Kept h′) = (p : List Bool) (i : ℕ) → i < length p → getD p i false ≡ o → Stands s p i h → Stands s p (i + 1) h′
-Turned s h o (Lost limit) = (p : List Bool) (i : ℕ) → i < length p → getD p i false ≡ o → Stands s p i h → LostAt s p (i + 1) limit

@@ -8,7 +8,7 @@ use Rattle.layout.specs.Bytes.{byteAt}
 use Rattle.layout.specs.Refusal.{first}
 use Rattle.patterns.specs.Outcome.{outcome, outcomes}
 use Rattle.verdict.specs.Turn.{Stands, Turned}
-use Rattle.verdict.proofs.Turns.{stands-first, stands-last}
+use Rattle.verdict.proofs.Turns.{stands-first, stands-last, turned-kept, turned-lost}
 use Rattle.verdict.proofs.judge_outcomes.Statement.{statement}
 use Rattle.verdict.proofs.judge_outcomes.Tie as tie
 
@@ -42,10 +42,12 @@ returns c =
     let l = c .before .before .before .before .before .before in
     let s = l .before .before in
     let p = s .args .pattern .now in
+    let o = outcome (byteAt p (l .loop .i)) in
     let t = c .before .before .before .take-turn in
     record {
       refusal = refl;
-      verdict = subst (λ z. Turned (s .args .set) (l .loop .history) (outcome (byteAt p (l .loop .i))) z) (c .before .turned2 .given .1) (t .ensures) (outcomes p) (l .loop .i) (omega (arith, length-map p outcome)) (List·getD-map outcome p (l .loop .i) 0) (l .loop .inv .1);
+      verdict = turned-lost (s .args .set) (s .pre) (outcomes p) (l .loop .i) (l .loop .history) (omega (arith, length-map p outcome)) (l .loop .inv .1) o (List·getD-map outcome p (l .loop .i) 0) _
+          (subst (λ z. Turned (s .args .set) (l .loop .history) o z) (c .before .turned2 .given .1) (t .ensures));
     }
 
 add-i : tie.Need-add-i Inv-loop μ-loop
@@ -59,9 +61,11 @@ loop-again c =
     let l = c .before .before .before .before .before .before in
     let s = l .before .before in
     let p = s .args .pattern .now in
+    let o = outcome (byteAt p (l .loop .i)) in
     let t = c .before .before .before .take-turn in (
       omega arith,
-      subst (λ z. Turned (s .args .set) (l .loop .history) (outcome (byteAt p (l .loop .i))) z) (c .before .turned .given .1) (t .ensures) (outcomes p) (l .loop .i) (omega (arith, length-map p outcome)) (List·getD-map outcome p (l .loop .i) 0) (l .loop .inv .1),
+      turned-kept (s .args .set) (s .pre) (outcomes p) (l .loop .i) (l .loop .history) (omega (arith, length-map p outcome)) (l .loop .inv .1) o (List·getD-map outcome p (l .loop .i) 0) _
+          (subst (λ z. Turned (s .args .set) (l .loop .history) o z) (c .before .turned .given .1) (t .ensures)),
     )
 
 returns-2 : tie.Need-returns-2 Inv-loop μ-loop

@@ -5,7 +5,7 @@ use native.Mathlib.Omega.{arith}
 use borrow.Author.Needs.{needs}
 use Rattle.layout.specs.Refusal.{first}
 use Rattle.verdict.specs.Turn.{Stands, Turned}
-use Rattle.verdict.proofs.Turns.{stands-first, stands-last}
+use Rattle.verdict.proofs.Turns.{stands-first, stands-last, turned-kept, turned-lost}
 use Rattle.night_log.specs.Bytes.{outcomeIn, outcomesOf}
 use Rattle.night_log.proofs.Outcomes.{outcomes-length, outcomes-at}
 use Rattle.night_log.proofs.judge.judge_packed.Statement.{statement}
@@ -46,8 +46,8 @@ returns c =
     let i = l .loop .i in
     record {
       refusal = refl;
-      verdict = subst (λ z. Turned (s .args .set) (l .loop .history) (o .result) z) (c .before .turned2 .given .1) (t .take-turn .ensures)
-          (outcomesOf b) i (omega (arith, outcomes-length b, s .pre .1)) (outcomes-at b i (omega (arith, s .pre .1)) ∙ sym (o .ensures)) (l .loop .inv .1);
+      verdict = turned-lost (s .args .set) (s .pre .0) (outcomesOf b) i (l .loop .history) (omega (arith, outcomes-length b, s .pre .1)) (l .loop .inv .1) (o .result) (outcomes-at b i (omega (arith, s .pre .1)) ∙ sym (o .ensures)) _
+          (subst (λ z. Turned (s .args .set) (l .loop .history) (o .result) z) (c .before .turned2 .given .1) (t .take-turn .ensures));
     }
 
 add-i : tie.Need-add-i Inv-loop μ-loop
@@ -65,8 +65,8 @@ loop-again c =
     let b = s .args .log .now in
     let i = l .loop .i in (
       omega arith,
-      subst (λ z. Turned (s .args .set) (l .loop .history) (o .result) z) (c .before .turned .given .1) (t .take-turn .ensures)
-          (outcomesOf b) i (omega (arith, outcomes-length b, s .pre .1)) (outcomes-at b i (omega (arith, s .pre .1)) ∙ sym (o .ensures)) (l .loop .inv .1),
+      turned-kept (s .args .set) (s .pre .0) (outcomesOf b) i (l .loop .history) (omega (arith, outcomes-length b, s .pre .1)) (l .loop .inv .1) (o .result) (outcomes-at b i (omega (arith, s .pre .1)) ∙ sym (o .ensures)) _
+          (subst (λ z. Turned (s .args .set) (l .loop .history) (o .result) z) (c .before .turned .given .1) (t .take-turn .ensures)),
     )
 
 returns-2 : tie.Need-returns-2 Inv-loop μ-loop
