@@ -16,7 +16,7 @@
  * more.
  *
  * The way to judge a visit later: floe_log_write makes a night log of its outcomes, which is stored, and floe_log_judge
- * gives the verdict on it, under these or any other limits.
+ * gives the verdict on it, under these or any other limits. examples/visit.c is a whole program.
  *
  * Lengths named ..._len count elements: bytes, and for `work` entries of 16 bits. The `count` of a row counts guards.
  *

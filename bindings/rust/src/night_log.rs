@@ -70,7 +70,8 @@ pub fn judge_log(set: &[u8], log: &[u8]) -> Result<Verdict, Refused> {
 /// Each outcome, [`HIT`] or [`MISS`], comes in a [`Result`], since each call tests the log anew, as
 /// [`open`](LogReader::open) does. The bytes are lent to the reader and can't change while it lives, so no call on a
 /// log that was opened is refused. Should one be all the same, because memory failed, that is an [`Err`] and never the
-/// end: the place stays, and further calls are refused too, so stop at the first.
+/// end: the place stays, and as long as the log is faulty each further call is an `Err` too. So stop at the first; and
+/// an adapter that drops one, such as `skip`, comes to the next.
 ///
 /// ```
 /// use floelinnet::{LogReader, Refused, HIT, MISS};
