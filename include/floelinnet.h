@@ -65,7 +65,7 @@
 #define FLOE_LONGEST_TABLE 8199 /* bytes of the longest table */
 #define FLOE_MOST_GUARDS 16     /* guards in a row, at the most */
 
-/* Bytes of the log of n outcomes, as a number of 64 bits whatever integer type n has, in #if too. For n up to
+/* Bytes of the log of n outcomes, as a number of 64 bits whatever integer type n has, in #if too. For n from 0 to
  * 4,294,967,295, the most outcomes of a log; nothing overflows up to UINT64_MAX - 7. n is evaluated once. */
 #define FLOE_LOG_SIZE(n) (9 + ((n) + UINT64_C(7)) / 8)
 
@@ -360,8 +360,8 @@ FLOE_NODISCARD floe_written floe_log_write(const uint8_t *pattern, size_t patter
 FLOE_NODISCARD floe_log_opened floe_log_open(const uint8_t *log, size_t log_len);
 
 /*
- * Hands out the outcome at a place of a log, from 0: at the place that opening gave the oldest, and at the place that
- * the call before gave the next. A caller may also begin elsewhere.
+ * Hands out the outcome at a place of a log, counted from 0. The oldest is at the place that floe_log_open gives, and
+ * each call gives the place of the next; a caller may also begin elsewhere.
  *
  * answer: one of enum floe_log_answer. place: the place to go on with, one more than that handed in where an outcome
  * was handed out. Past the last outcome, however far, the answer is FLOE_LOG_END, each time, and place the one handed
