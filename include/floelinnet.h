@@ -1,6 +1,7 @@
 /*
  * Floelinnet for C and C++: limits on missed deadlines, the verdict on a pattern of outcomes, the comparison
- * of two sets of limits, tables made of sets, and guards that walk a table while jobs run, alone or in a row.
+ * of two sets of limits, tables made of sets, guards that walk a table while jobs run, alone or in a row, and night
+ * logs, in which outcomes are stored.
  *
  * Link with libfloelinnet.a, which is for x86-64 Linux. `make dist` puts it, this header and a file for pkg-config into
  * dist/. With PKG_CONFIG_PATH set to dist/lib/pkgconfig:
@@ -14,29 +15,34 @@
  * row; a job with other limits has a table of its own. examples/recorder.c is a whole program, docs/COOKBOOK.md has
  * more.
  *
+ * The way to judge a visit later: floe_log_write makes a night log of its outcomes, which is stored, and floe_log_judge
+ * gives the verdict on it, under these or any other limits. examples/visit.c is a whole program.
+ *
  * Lengths named ..._len count elements: bytes, and for `work` entries of 16 bits. The `count` of a row counts guards.
  *
  * Answers. Each begins with `refused`, which is 0 where the call was not refused, and else a number of enum
  * floe_refusal; and with `at`, which says more for some numbers and is 0 for all others, and where nothing is refused.
- * A refused call doesn't say that all is well: `kept` and `covers` are 0, `answer` is FLOE_REFUSED, lengths and counts
- * are 0. It writes to nothing that was lent to it, the row included, but for FLOE_REFUSED_ROOM (see floe_build), and a
- * guard that was handed in comes back as it was. So look at `refused` after a start and after a tell: the guard alone
- * doesn't show that the table wasn't accepted, or the outcome not told.
+ * A refused call doesn't say that all is well: `kept` and `covers` are 0, `answer` is FLOE_REFUSED, of a log
+ * FLOE_LOG_REFUSED, lengths and counts are 0. It writes to nothing that was lent to it, the row included, but for
+ * FLOE_REFUSED_ROOM (see floe_build), and a guard or a place that was handed in comes back as it was. So look at
+ * `refused` after a start and after a tell: the guard alone doesn't show that the table wasn't accepted, or the outcome
+ * not told.
  *
  * Pointers. Every pointer is valid for its length: to read, and through a pointer that isn't const also to write.
  * A null pointer is never allowed; a length of 0 wants a pointer that isn't null (in C++ the data() of an empty vector
  * may be), and nothing is read through it.
  * `work` is aligned as a uint16_t, `row` as a floe_guard. What is written in a call (`bytes` of floe_write_set, `work`
- * and `table` of floe_build, `row` of floe_row_start and floe_row_tell) overlaps nothing else that is handed over in
- * that call.
+ * and `table` of floe_build, `row` of floe_row_start and floe_row_tell, `log` of floe_log_write) overlaps nothing else
+ * that is handed over in that call.
  *
  * Who owns what. All memory is the caller's. No function allocates, and none keeps a pointer after it returns.
  * Structs are passed and returned by value; none has to be released.
  *
- * Memory. A set has at most 30 bytes, a table at most 8199, a guard 4; building wants a work area of 16384 bytes, which
- * is free again afterwards. No call uses more than 1024 bytes of stack, the record of its answer included, and the
- * archive has no memory of its own. Of the C library it calls memset alone; where that is linked lazily, the dynamic
- * linker takes some stack of its own in the first call (-z now does that before main).
+ * Memory. A set has at most 30 bytes, a table at most 8199, a guard 4, a log of n outcomes FLOE_LOG_SIZE(n); building
+ * wants a work area of 16384 bytes, which is free again afterwards. No call uses more than 1024 bytes of stack, the
+ * record of its answer included, and the archive has no memory of its own. Of the C library it calls memset alone;
+ * where that is linked lazily, the dynamic linker takes some stack of its own in the first call (-z now does that
+ * before main).
  *
  * Threads. No state is kept between calls, so any thread may call any function at any time, as long as no other
  * thread writes to what a call reads, or uses what a call writes, while it runs. A row counts as a whole here: while
@@ -51,13 +57,17 @@
 
 /* The version of this header and of the archive that it came with. A program is compiled against the header of the
  * archive that it links. */
-#define FLOE_VERSION "0.2.0"
+#define FLOE_VERSION "0.3.0"
 
 #define FLOE_MOST_LIMITS 8      /* limits in a set, at the most */
 #define FLOE_LONGEST_SET 30     /* bytes of the longest set */
 #define FLOE_WORK_ENTRIES 8192  /* entries of 16 bits that floe_build works in */
 #define FLOE_LONGEST_TABLE 8199 /* bytes of the longest table */
 #define FLOE_MOST_GUARDS 16     /* guards in a row, at the most */
+
+/* Bytes of the log of n outcomes, as a number of 64 bits whatever integer type n has, in #if too. For n from 0 to
+ * 4,294,967,295, the most outcomes of a log; nothing overflows up to UINT64_MAX - 7. n is evaluated once. */
+#define FLOE_LOG_SIZE(n) (9 + ((n) + UINT64_C(7)) / 8)
 
 /* An outcome, a byte; a pattern has one a job, oldest first. */
 enum floe_outcome {
@@ -82,9 +92,19 @@ enum floe_answer {
     FLOE_REFUSED = 3 /* the call was refused: nobody guards this job */
 };
 
+/* What the next call of a log's reader answers. The first two are an outcome, by its number in enum floe_outcome. Only
+ * FLOE_LOG_END says that the outcomes are all: take everything after it as an alarm, and a loop that stops at the first
+ * answer that isn't an outcome has to look at which one that is. */
+enum floe_log_answer {
+    FLOE_LOG_MISS = 0,   /* the outcome is a miss */
+    FLOE_LOG_HIT = 1,    /* the outcome is a hit */
+    FLOE_LOG_END = 2,    /* the place is past the last outcome */
+    FLOE_LOG_REFUSED = 3 /* the call was refused: there is no outcome, and nobody knows what the log held */
+};
+
 /* Why a call is refused, and what `at` says then (where nothing is said, 0). The numbers are tested in this order,
  * limits first to last and each for its kind, k and x, and the first that applies is given; but a call on a row tests
- * FLOE_REFUSED_JOB first. */
+ * FLOE_REFUSED_JOB first, and floe_log_write tests 15, 13 and then 9. */
 enum floe_refusal {
     FLOE_ACCEPTED = 0,               /* the call was not refused */
     FLOE_REFUSED_SET_LENGTH = 1,     /* set: under 6 bytes, or its length field isn't the count of bytes after it */
@@ -95,14 +115,19 @@ enum floe_refusal {
     FLOE_REFUSED_LIMIT_K = 6,        /* a limit's k isn't one that its kind takes; at: its number, from 0 */
     FLOE_REFUSED_LIMIT_X = 7,        /* a limit's x isn't one that its kind takes; at: its number, from 0 */
     FLOE_REFUSED_WORK_LENGTH = 8,    /* the work area has fewer than 8192 entries */
-    FLOE_REFUSED_ROOM = 9,           /* the buffer is too short for what must be written; at: the bytes needed */
+    FLOE_REFUSED_ROOM = 9,           /* the buffer is shorter than what must be written, a table, a set or a log; at:
+                                        the length needed, in bytes */
     FLOE_REFUSED_TABLE_LENGTH = 10,  /* table: under 7 bytes, or its length field isn't the count of bytes after it */
     FLOE_REFUSED_TABLE_VERSION = 11, /* the table's version isn't 1 */
     FLOE_REFUSED_STATES = 12,        /* the table's count of states n is 0 or above 2048, its length field isn't
                                         3 + 4 * n, a next state is n or more (FF FF after a miss excepted), or the
                                         guard's state is n or more */
     FLOE_REFUSED_OUTCOME = 13,       /* an outcome is neither 0 nor 1; at: its place, from 0, and 0 in a tell */
-    FLOE_REFUSED_JOB = 14            /* the row has no guard of this job's number, from 0, or more than 16 guards */
+    FLOE_REFUSED_JOB = 14,           /* the row has no guard of this job's number, from 0, or more than 16 guards */
+    FLOE_REFUSED_LOG = 15,           /* log: under 9 bytes, or its length field isn't the count of bytes after it, its
+                                        version isn't 1, or its length field isn't 5 and the bytes that its count of
+                                        outcomes takes; or a pattern for a log has more than 4,294,967,295 outcomes */
+    FLOE_REFUSED_UNUSED_BITS = 16    /* the low bits of the log's last byte that no outcome takes aren't all zero */
 };
 
 /* A compiler that can do so warns where an answer is dropped. What a guard was told is in the guard that comes back, so
@@ -147,6 +172,8 @@ typedef struct { uint64_t refused, at, answer; floe_guard guard; } floe_asked;
 typedef struct { uint64_t refused, at; floe_guard guard; } floe_told;
 typedef struct { uint64_t refused, at; } floe_done;
 typedef struct { uint64_t refused, at, answer; } floe_row_asked;
+typedef struct { uint64_t refused, at, place; } floe_log_opened;
+typedef struct { uint64_t refused, at, answer, place; } floe_log_read;
 
 /*
  * Reads the bytes of a set: four bytes, big-endian, that count the bytes after them; the version, 1; the count of
@@ -291,6 +318,67 @@ FLOE_NODISCARD floe_row_asked floe_row_ask(const floe_guard *row, size_t count, 
  */
 FLOE_NODISCARD floe_done floe_row_tell(floe_guard *row, size_t count, size_t job,
                                        const uint8_t *table, size_t table_len, uint8_t outcome);
+
+/*
+ * A night log: the outcomes of a visit as they are stored. Its bytes are four, big-endian, that count the bytes after
+ * them; the version, 1; four for the count of outcomes; and the outcomes, eight to a byte, the oldest in the high bit,
+ * 1 for a hit. The low bits of the last byte that no outcome takes are zero. Each pattern has one log, and reading that
+ * log gives the pattern: 1 1 0 1 has 00 00 00 06 01 00 00 00 04 D0.
+ *
+ * A log is handed over with its own length, not that of a longer buffer that holds it. A reader is a log and a place in
+ * it, the number of outcomes handed out, both kept by the caller. To write the log of a pattern, to count the hits in
+ * it, one outcome a call, and to judge it under the bytes of a set:
+ *
+ *     floe_written written = floe_log_write(pattern, pattern_len, log, sizeof log);
+ *     floe_log_opened opened = floe_log_open(log, written.length);
+ *     floe_log_read read = floe_log_next(opened.place, log, written.length);
+ *     for (; read.answer < FLOE_LOG_END; read = floe_log_next(read.place, log, written.length)) hits += read.answer;
+ *     floe_verdict verdict = floe_log_judge(limits, limits_len, log, written.length);
+ *
+ * Where read.answer is then FLOE_LOG_END, all outcomes were handed out, and read.place counts them. A refused pattern
+ * needs no test of its own: the length of its log is 0, and the calls below refuse a log of no bytes.
+ */
+
+/*
+ * Writes the log of a pattern of outcomes, one a byte. log is a buffer here, and FLOE_LOG_SIZE(pattern_len) bytes are
+ * room enough; bytes past those that are written are left alone.
+ *
+ * length: the length of the log, FLOE_LOG_SIZE(pattern_len); 0 on a refusal.
+ *
+ * Refuses by 15 for more than 4,294,967,295 outcomes, then by 13 with the first place where an outcome is none in at,
+ * then by 9 with the length that is needed in at, and then writes nothing.
+ */
+FLOE_NODISCARD floe_written floe_log_write(const uint8_t *pattern, size_t pattern_len, uint8_t *log, size_t log_len);
+
+/*
+ * Opens a log: tests that the bytes are one, in time that doesn't grow with its length.
+ *
+ * place: where reading begins, 0, on a refusal too.
+ *
+ * Refuses by 15, then by 16.
+ */
+FLOE_NODISCARD floe_log_opened floe_log_open(const uint8_t *log, size_t log_len);
+
+/*
+ * Hands out the outcome at a place of a log, counted from 0. The oldest is at the place that floe_log_open gives, and
+ * each call gives the place of the next; a caller may also begin elsewhere.
+ *
+ * answer: one of enum floe_log_answer. place: the place to go on with, one more than that handed in where an outcome
+ * was handed out. Past the last outcome, however far, the answer is FLOE_LOG_END, each time, and place the one handed
+ * in.
+ *
+ * Refuses by 15, then by 16, tested in each call as by floe_log_open, wherever the place is; place is then the one
+ * handed in.
+ */
+FLOE_NODISCARD floe_log_read floe_log_next(uint64_t place, const uint8_t *log, size_t log_len);
+
+/*
+ * Judges the outcomes that a log holds, under the set in these bytes: the verdict that floe_judge gives on the pattern
+ * of which it is the log.
+ *
+ * Refuses by 1 to 7 for the set, then by 15 and by 16 for the log; kept is 0 then.
+ */
+FLOE_NODISCARD floe_verdict floe_log_judge(const uint8_t *set, size_t set_len, const uint8_t *log, size_t log_len);
 
 #ifdef __cplusplus
 }

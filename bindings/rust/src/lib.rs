@@ -4,9 +4,10 @@
 //! what the library refuses is an [`Err`] with the number of the refusal. The crate tests nothing and rules nothing by
 //! itself. It keeps no state, allocates nothing and needs no standard library; the archive is for x86-64 Linux.
 //!
-//! An outcome is a byte, [`HIT`] or [`MISS`]; a pattern is a slice of them, oldest first. Sets of limits and tables are
-//! slices too, with the bytes that [`read_set`] and [`build`] describe; a [`LimitSet`] is made of [`Limit`]s and has such
-//! bytes. Where a page says "refuses by 10 to 12", these are the numbers of [`Refused`].
+//! An outcome is a byte, [`HIT`] or [`MISS`]; a pattern is a slice of them, oldest first. Sets of limits, tables and
+//! night logs are slices too, with the bytes that [`read_set`], [`build`] and [`write_log`] describe; a [`LimitSet`] is
+//! made of [`Limit`]s and has a set's bytes. Where a page says "refuses by 10 to 12", these are the numbers of
+//! [`Refused`].
 //!
 //! | to | call |
 //! |---|---|
@@ -15,6 +16,8 @@
 //! | see whether one set demands as much as another | [`compare`] |
 //! | guard jobs while they run | [`build`] once, then [`Guard`], or [`row`] for several jobs with the same limits |
 //! | check a table that comes from elsewhere | [`check_table`] |
+//! | store a visit's outcomes, eight to a byte, and judge it later | [`write_log`], [`judge_log`] |
+//! | read what was stored, outcome by outcome | [`LogReader`] |
 //!
 //! ```
 //! use floelinnet::{build, Answer, Guard, Limit, LimitSet, Refused, LONGEST_TABLE, MISS, WORK_ENTRIES};
@@ -42,6 +45,7 @@
 
 mod compare;
 mod guard;
+mod night_log;
 pub mod raw;
 mod refused;
 pub mod row;
@@ -51,6 +55,7 @@ mod verdict;
 
 pub use compare::{compare, Comparison, Pattern, RefusedSet};
 pub use guard::Answer;
+pub use night_log::{judge_log, log_size, write_log, LogReader};
 #[doc(inline)]
 pub use raw::Guard;
 pub use refused::Refused;

@@ -88,12 +88,12 @@ answers! {
         /// The set; of count 0 on a refusal.
         set: Set,
     }
-    /// What [`write_set`] answers.
+    /// What [`write_set`] and [`log_write`] answer.
     Written {
         /// How many bytes were written; 0 on a refusal.
         length: u64,
     }
-    /// What [`judge`] answers.
+    /// What [`judge`] and [`log_judge`] answer.
     Verdict {
         /// 1 where the pattern is kept; 0 where it is lost, and on a refusal.
         kept: u64,
@@ -147,6 +147,18 @@ answers! {
         /// 0 normal, 1 panic, 2 lost, 3 refused.
         answer: u64,
     }
+    /// What [`log_open`] answers.
+    LogOpened {
+        /// Where reading begins: 0, on a refusal too.
+        place: u64,
+    }
+    /// What [`log_next`] answers.
+    LogRead {
+        /// 0 a miss, 1 a hit, 2 end, 3 refused.
+        answer: u64,
+        /// The place to go on with; at the end and on a refusal the one handed in.
+        place: u64,
+    }
 }
 
 extern "C" {
@@ -176,6 +188,10 @@ extern "C" {
         table_len: usize,
         outcome: u8,
     ) -> Done;
+    fn floe_log_write(pattern: *const u8, pattern_len: usize, log: *mut u8, log_len: usize) -> Written;
+    fn floe_log_open(log: *const u8, log_len: usize) -> LogOpened;
+    fn floe_log_next(place: u64, log: *const u8, log_len: usize) -> LogRead;
+    fn floe_log_judge(set: *const u8, set_len: usize, log: *const u8, log_len: usize) -> Verdict;
 }
 
 // SAFETY, for every call below: a slice's pointer isn't null, is aligned and is valid for the slice's length, an empty
@@ -239,4 +255,24 @@ pub fn row_ask(row: &[Guard], job: usize, table: &[u8]) -> RowAsked {
 /// `floe_row_tell`.
 pub fn row_tell(row: &mut [Guard], job: usize, table: &[u8], outcome: u8) -> Done {
     unsafe { floe_row_tell(row.as_mut_ptr(), row.len(), job, table.as_ptr(), table.len(), outcome) }
+}
+
+/// `floe_log_write`.
+pub fn log_write(pattern: &[u8], log: &mut [u8]) -> Written {
+    unsafe { floe_log_write(pattern.as_ptr(), pattern.len(), log.as_mut_ptr(), log.len()) }
+}
+
+/// `floe_log_open`.
+pub fn log_open(log: &[u8]) -> LogOpened {
+    unsafe { floe_log_open(log.as_ptr(), log.len()) }
+}
+
+/// `floe_log_next`.
+pub fn log_next(place: u64, log: &[u8]) -> LogRead {
+    unsafe { floe_log_next(place, log.as_ptr(), log.len()) }
+}
+
+/// `floe_log_judge`.
+pub fn log_judge(set: &[u8], log: &[u8]) -> Verdict {
+    unsafe { floe_log_judge(set.as_ptr(), set.len(), log.as_ptr(), log.len()) }
 }

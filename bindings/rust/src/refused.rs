@@ -1,7 +1,8 @@
 use core::error::Error;
 use core::fmt;
 
-/// Why a call was refused. The tests are made in the order of the numbers, and the first that applies is given.
+/// Why a call was refused. The tests are made in the order of the numbers, unless a function's page says otherwise, and
+/// the first that applies is given.
 #[derive(Clone, Copy, PartialEq, Eq, Hash, Debug)]
 pub enum Refused {
     /// 1: the set has fewer than 6 bytes, or its length field isn't the count of bytes after it.
@@ -29,7 +30,7 @@ pub enum Refused {
     },
     /// 8: the work area has fewer than [`WORK_ENTRIES`](crate::WORK_ENTRIES) entries.
     WorkLength,
-    /// 9: the buffer is shorter than what must be written.
+    /// 9: the buffer is shorter than what must be written, a table, a set or a log.
     Room {
         /// The length in bytes that is needed.
         needed: usize,
@@ -50,10 +51,17 @@ pub enum Refused {
     /// 14: the job's number, from 0, isn't below the row's count of guards, or the row has more than
     /// [`MOST_GUARDS`](crate::MOST_GUARDS).
     Job,
+    /// 15: the log has fewer than 9 bytes, its length field isn't the count of bytes after it, its version isn't 1, or
+    /// its length field isn't 5 and the bytes that its count of outcomes takes; or the pattern that a log is to be
+    /// written of has more than 4,294,967,295 outcomes. A buffer that is longer than the log in it is refused so: pass
+    /// `&log[..length]`.
+    Log,
+    /// 16: the low bits of the log's last byte that no outcome takes aren't all zero.
+    UnusedBits,
 }
 
 impl Refused {
-    /// The number of the refusal, 1 to 14.
+    /// The number of the refusal, 1 to 16.
     pub fn number(self) -> u8 {
         match self {
             Refused::SetLength => 1,
@@ -70,6 +78,8 @@ impl Refused {
             Refused::States => 12,
             Refused::Outcome { .. } => 13,
             Refused::Job => 14,
+            Refused::Log => 15,
+            Refused::UnusedBits => 16,
         }
     }
 
@@ -112,6 +122,12 @@ impl fmt::Display for Refused {
             Refused::Job => {
                 f.write_str("the job's number isn't below the row's count of guards, or the row has more than 16")
             }
+            Refused::Log => f.write_str(
+                "the log has fewer than 9 bytes, its length field isn't the count of bytes after it, its version \
+                 isn't 1, or its length field isn't 5 and the bytes that its count of outcomes takes; \
+                 or the pattern has more than 4294967295 outcomes",
+            ),
+            Refused::UnusedBits => f.write_str("the unused low bits of the log's last byte aren't all zero"),
         }
     }
 }
@@ -137,6 +153,8 @@ pub(crate) fn accepted(refused: u64, at: u64) -> Result<(), Refused> {
         12 => Refused::States,
         13 => Refused::Outcome { place: at },
         14 => Refused::Job,
+        15 => Refused::Log,
+        16 => Refused::UnusedBits,
         number => crate::no_such("refusal", number),
     })
 }

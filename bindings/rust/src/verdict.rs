@@ -3,7 +3,7 @@ use core::fmt;
 use crate::refused::accepted;
 use crate::{raw, Refused};
 
-/// What [`judge`] says of a pattern.
+/// What [`judge`] says of a pattern, and [`judge_log`](crate::judge_log) of the pattern in a log.
 #[must_use]
 #[derive(Clone, Copy, PartialEq, Eq, Hash, Debug)]
 pub enum Verdict {
@@ -16,6 +16,17 @@ pub enum Verdict {
         /// The lowest number, from 0, of a limit that doesn't keep that beginning.
         limit: usize,
     },
+}
+
+impl Verdict {
+    pub(crate) fn of(verdict: raw::Verdict) -> Result<Verdict, Refused> {
+        let raw::Verdict { refused, at, kept, job, limit } = verdict;
+        accepted(refused, at)?;
+        Ok(match kept {
+            1 => Verdict::Kept,
+            _ => Verdict::Lost { job: job as usize, limit: limit as usize },
+        })
+    }
 }
 
 /// As `kept`, and `lost at job 4 by limit 0`.
@@ -42,10 +53,5 @@ impl fmt::Display for Verdict {
 /// # Ok::<(), Refused>(())
 /// ```
 pub fn judge(set: &[u8], pattern: &[u8]) -> Result<Verdict, Refused> {
-    let raw::Verdict { refused, at, kept, job, limit } = raw::judge(set, pattern);
-    accepted(refused, at)?;
-    Ok(match kept {
-        1 => Verdict::Kept,
-        _ => Verdict::Lost { job: job as usize, limit: limit as usize },
-    })
+    Verdict::of(raw::judge(set, pattern))
 }

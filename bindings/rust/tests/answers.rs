@@ -103,3 +103,40 @@ fn of_rows() {
     want[15] = Guard::default();
     assert_eq!(jobs, want);
 }
+
+/// Every pattern of up to 10 jobs comes back from its log, and is judged there as it is without one.
+#[test]
+fn of_logs() {
+    let mut log = [7; 13];
+    assert_eq!(write_log(&[1, 0, 1, 1, 0, 1, 1, 1, 1, 0], &mut log), Ok(11));
+    assert_eq!(log, [0, 0, 0, 7, 1, 0, 0, 0, 10, 0b1011_0111, 0b1000_0000, 7, 7]);
+    for jobs in 0..=10 {
+        for number in 0..1 << jobs {
+            let pattern: Vec<u8> = (0..jobs).rev().map(|bit| (number >> bit) as u8 & 1).collect();
+            let mut log = vec![7; log_size(jobs)];
+            assert_eq!(write_log(&pattern, &mut log), Ok(log_size(jobs)));
+            let read: Result<Vec<u8>, Refused> = LogReader::open(&log).unwrap().collect();
+            assert_eq!(read.as_ref(), Ok(&pattern));
+            assert_eq!(judge_log(&ALL_KINDS, &log), judge(&ALL_KINDS, &pattern));
+        }
+    }
+}
+
+#[test]
+fn of_log_readers() {
+    let log = [0, 0, 0, 7, 1, 0, 0, 0, 9, 0b1101_0110, 0b1000_0000];
+    let mut reader = LogReader::open(&log).unwrap();
+    for (place, outcome) in [1, 1, 0, 1, 0, 1, 1, 0, 1].into_iter().enumerate() {
+        assert_eq!((reader.place(), reader.len()), (place, 9 - place));
+        assert_eq!(reader.clone().count(), 9 - place);
+        assert_eq!(reader.next(), Some(Ok(outcome)));
+    }
+    for _ in 0..10 {
+        assert_eq!(reader.next(), None);
+        assert_eq!((reader.place(), reader.len()), (9, 0));
+    }
+    assert_eq!(LogReader::open(&log).unwrap().nth(8), Some(Ok(HIT)));
+    assert_eq!(LogReader::open(&log).unwrap().nth(9), None);
+    assert_eq!(LogReader::open(&[0, 0, 0, 5, 1, 0, 0, 0, 0]).unwrap().next(), None);
+    assert_eq!(log_size(usize::MAX), 9 + (1 << 61));
+}

@@ -3,6 +3,7 @@
 use floelinnet::*;
 
 const SET: [u8; 9] = [0, 0, 0, 5, 1, 1, 0, 1, 2];
+const LOG: [u8; 10] = [0, 0, 0, 6, 1, 0, 0, 0, 4, 0b1101_0000];
 const TABLE: [u8; 15] = [0, 0, 0, 11, 1, 0, 2, 0, 1, 0, 0, 0xFF, 0xFF, 0, 0];
 
 /// The bytes with one of them changed.
@@ -106,6 +107,53 @@ fn of_rows() {
     assert_eq!(row::start(&mut jobs, 1, &TABLE[..14]), Err(Refused::TableLength));
     assert_eq!(row::tell(&mut jobs, 1, &TABLE, 2), Err(Refused::Outcome { place: 0 }));
     assert_eq!(jobs, [stands; 3]);
+}
+
+#[test]
+fn of_logs() {
+    let log = "the log has fewer than 9 bytes, its length field isn't the count of bytes after it, its version \
+               isn't 1, or its length field isn't 5 and the bytes that its count of outcomes takes; \
+               or the pattern has more than 4294967295 outcomes";
+    let unused = "the unused low bits of the log's last byte aren't all zero";
+    let spoilt = with(LOG, 9, 0b1101_0001);
+    let cases: [(&[u8], u8, &str); 9] = [
+        (&[], 15, log),
+        (&[0, 0, 0, 4, 1, 0, 0, 0], 15, log),
+        (&LOG[..9], 15, log),
+        (&with(LOG, 3, 5), 15, log),
+        (&with(LOG, 4, 2), 15, log),
+        (&with(LOG, 8, 0), 15, log),
+        (&with(LOG, 8, 9), 15, log),
+        (&with(spoilt, 4, 2), 15, log), // 15 before 16
+        (&spoilt, 16, unused),
+    ];
+    for (log, number, words) in cases {
+        says(LogReader::open(log).unwrap_err(), number, 0, words);
+        says(judge_log(&SET, log).unwrap_err(), number, 0, words);
+        assert_eq!(judge_log(&SET[..8], log), Err(Refused::SetLength)); // the set before the log
+    }
+    assert_eq!(judge_log(&with(SET, 7, 3), &[]), Err(Refused::LimitX { limit: 0 }));
+}
+
+#[test]
+fn of_written_logs() {
+    let mut out = [7; 10];
+    says(write_log(&[1, 0, 2, 255], &mut []).unwrap_err(), 13, 2, "the outcome at place 2 is neither 0 nor 1");
+    says(write_log(&[1; 9], &mut out).unwrap_err(), 9, 11, "the buffer is shorter than the 11 bytes to be written");
+    assert_eq!(out, [7; 10]);
+    assert_eq!(write_log(zeros(1 << 32), &mut []), Err(Refused::Log)); // 15 before 9
+}
+
+/// So many zeros, for which the system sets no memory aside as long as nobody reads them.
+fn zeros(length: usize) -> &'static [u8] {
+    extern "C" {
+        fn mmap(at: *mut u8, length: usize, access: i32, flags: i32, file: i32, offset: i64) -> *mut u8;
+    }
+    const READ: i32 = 1;
+    const PRIVATE_ANONYMOUS_NORESERVE: i32 = 0x4022;
+    let bytes = unsafe { mmap(std::ptr::null_mut(), length, READ, PRIVATE_ANONYMOUS_NORESERVE, -1, 0) };
+    assert_ne!(bytes as isize, -1);
+    unsafe { std::slice::from_raw_parts(bytes, length) }
 }
 
 #[test]
