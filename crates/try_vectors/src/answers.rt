@@ -7,6 +7,7 @@ use guard::AskAnswer;
 use guard::Guard;
 use guard::StartAnswer;
 use guard::TellAnswer;
+use layout::WriteAnswer;
 use meaning::Limit;
 use meaning::LimitSet;
 use table::TableAnswer;
@@ -51,14 +52,14 @@ pub(crate) fn print_read(read: sets::SetRead) {
 }
 
 // As `written 9`; says how many bytes were written.
-pub(crate) fn print_written(written: sets::SetWritten) -> usize {
+pub(crate) fn print_written(written: WriteAnswer) -> usize {
     match written {
-        sets::SetWritten::Written(size) => {
+        WriteAnswer::Written(size) => {
             text::print(b"written ");
             text::print_number(size as u64);
             size
         }
-        sets::SetWritten::Refused { number, at } => {
+        WriteAnswer::Refused { number, at } => {
             text::print_refusal(number, at);
             0
         }
