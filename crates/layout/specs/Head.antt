@@ -1,4 +1,4 @@
--- RULES, Refusals: what every layout's first numbers say: "fewer than" so many bytes, "or the length field doesn't match the number of bytes that follow it", and then the version, "isn't 1".
+-- RULES, Refusals, 1 and 2 of a set, 10 and 11 of a table: it "has under" so many bytes, "or its length field isn't how many bytes follow it"; then its version "isn't 1".
 use mathlib.Core.Bool.{not, _||_}
 use mathlib.Core.List.{List, [], _∷_}
 use Prim.Native.Nat.{ℕ, zero, suc, _-_}

@@ -1,4 +1,4 @@
--- RULES, Refusals, 9: "the buffer is shorter than what must be written", with "the length needed"; and What a refusal leaves: a refused writer writes nothing, and none writes past the end of what it writes.
+-- RULES, Refusals, 9: "the buffer is too short for what must be written", with "how many bytes are needed". What a refusal leaves: "Nothing that was lent is written"; and, "Refused or not, nothing is ever written" past the bytes of what must be.
 use mathlib.Core.Path.{_≡_}
 use mathlib.Core.List.{List, _++_}
 use Prim.Native.Nat.{ℕ}

@@ -26,7 +26,7 @@ bytes c = c .before .before .args .bytes .now
 
 -- the head was passed
 long : (c : tie.Else1) → 6 ≤ length (bytes (c .before))
-long c = head-passed 6 1 2 (bytes (c .before)) (c .before .head-fault .ensures ∙ no-fault _ 0 (c .if1 .left)) .0
+long c = head-passed 6 _ _ (bytes (c .before)) (c .before .head-fault .ensures ∙ no-fault _ 0 (c .if1 .left)) .0
 
 at-count : (c : tie.After-wide) → countOver (c .before .before .length-field .result) (c .wide .result) ≡ first (headRows (bytes (c .before .before .before .before)))
 at-count c =

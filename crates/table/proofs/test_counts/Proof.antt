@@ -26,7 +26,7 @@ bytes c = c .before .before .args .bytes .now
 
 -- the head was passed
 long : (c : tie.Else1) → 7 ≤ length (bytes (c .before))
-long c = head-passed 7 10 11 (bytes (c .before)) (c .before .head-fault .ensures ∙ no-fault _ 0 (c .if1 .left)) .0
+long c = head-passed 7 _ _ (bytes (c .before)) (c .before .head-fault .ensures ∙ no-fault _ 0 (c .if1 .left)) .0
 
 at-count : (c : tie.After-pair) → countsOver (c .before .length-field .result) (c .pair .result) ≡ first (countRows (bytes (c .before .before .before)))
 at-count c =
