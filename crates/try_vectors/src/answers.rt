@@ -10,6 +10,8 @@ use guard::TellAnswer;
 use layout::WriteAnswer;
 use meaning::Limit;
 use meaning::LimitSet;
+use night_log::LogAnswer;
+use night_log::OpenAnswer;
 use table::TableAnswer;
 
 fn print_limit(limit: Limit, first: bool) {
@@ -114,6 +116,29 @@ pub(crate) fn print_checked(answer: TableAnswer) {
         }
         TableAnswer::Refused { number, at } => text::print_refusal(number, at),
     }
+}
+
+pub(crate) fn print_opened(answer: OpenAnswer) {
+    match answer {
+        OpenAnswer::Opened => text::print(b"opened"),
+        OpenAnswer::Refused { number, at } => text::print_refusal(number, at),
+    }
+}
+
+// An outcome as its digit.
+pub(crate) fn print_handed(answer: LogAnswer) {
+    match answer {
+        LogAnswer::Miss => text::print(b"0"),
+        LogAnswer::Hit => text::print(b"1"),
+        LogAnswer::End => text::print(b"end"),
+        LogAnswer::Refused { number, at } => text::print_refusal(number, at),
+    }
+}
+
+// As `place 3`.
+pub(crate) fn print_place(place: usize) {
+    text::print(b"place ");
+    text::print_number(place as u64);
 }
 
 pub(crate) fn print_started(answer: StartAnswer) {

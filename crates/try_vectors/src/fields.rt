@@ -110,3 +110,21 @@ pub(crate) fn size(field: &[u8]) -> usize
     }
     64
 }
+
+// The number that bytes write, the highest first; of more than eight bytes the last eight.
+fn joined(bytes: &[u8]) -> usize {
+    let mut number = 0;
+    let mut i = 0;
+    while i < bytes.len() {
+        number = number << 8 | layout::wide(bytes[i]);
+        i += 1;
+    }
+    number
+}
+
+// All of a field's bytes as one number, eight at the most.
+pub(crate) fn long_number(field: &[u8]) -> usize {
+    let mut space = [0u8; 8];
+    let n = bytes(field, &mut space);
+    joined(&space[..n])
+}

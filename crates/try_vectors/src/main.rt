@@ -1,11 +1,13 @@
 // Runs the vectors on standard input through the library's functions, one vector a line, and refuses nothing.
 // Each line is printed as it stands, then ` = ` and the answers. Comments begin with `#`; they and empty lines have none.
 // `r SET` reads; `w SET` reads and writes; `m SET SIZE` writes from memory; `j SET OUTCOMES` judges; `c SET SET` compares.
+// `l OUTCOMES SIZE` writes a log; `o LOG` opens one; `n LOG PLACE` calls its reader there, `a LOG CALLS` so many times from place 0; `v SET LOG` judges it.
 // `t TABLE` checks a table. `g TABLE ACTIONS` drives a guard in state 0; `h TABLE STATE LOST ACTIONS` drives one made by hand.
 mod answers;
 mod fields;
 mod guards;
 mod limits;
+mod logs;
 mod memory;
 mod tables;
 mod text;
@@ -35,9 +37,37 @@ fn answer_limits(line: &[u8], command: u8) -> bool {
     false
 }
 
+// The same for vectors on night logs.
+fn answer_logs(line: &[u8], command: u8) -> bool {
+    if command == b'l' {
+        logs::try_write(line);
+        return true;
+    }
+    if command == b'o' {
+        logs::try_open(line);
+        return true;
+    }
+    if command == b'n' {
+        logs::try_at(line);
+        return true;
+    }
+    if command == b'a' {
+        logs::try_calls(line);
+        return true;
+    }
+    if command == b'v' {
+        logs::try_judge(line);
+        return true;
+    }
+    false
+}
+
 fn answer(line: &[u8], command: u8) {
     text::print(b" = ");
     if answer_limits(line, command) {
+        return;
+    }
+    if answer_logs(line, command) {
         return;
     }
     if command == b't' {
