@@ -11,6 +11,7 @@ mod clock;
 mod compare;
 mod figures;
 mod guard;
+mod log;
 mod plain;
 mod search;
 mod sets;
@@ -22,6 +23,7 @@ fn main() {
     guard::measure(&mut figures);
     compare::measure(&mut figures);
     verdict::measure(&mut figures);
+    log::measure(&mut figures);
     sets::measure(&mut figures);
     figures.print();
 }

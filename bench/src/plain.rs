@@ -4,6 +4,7 @@
 pub mod builder;
 pub mod compare;
 pub mod guard;
+pub mod log;
 pub mod sets;
 pub mod verdict;
 

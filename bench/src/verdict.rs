@@ -13,7 +13,7 @@ use crate::figures::{words, Figure, Figures, Unit};
 use crate::plain;
 use crate::search::slowest;
 
-const OUTCOMES: usize = 1_000_000;
+pub const OUTCOMES: usize = 1_000_000;
 
 /// A set, how rare a miss is among the outcomes where it may be, and some outcomes of that kind.
 struct Case {
@@ -23,8 +23,7 @@ struct Case {
 }
 
 pub fn measure(figures: &mut Figures) {
-    let mixed: Vec<Limit> =
-        [(0, 3, 12), (1, 2, 12), (2, 8, 12), (3, 11, 0)].map(|(kind, x, k)| Limit { kind, x, k }).repeat(2);
+    let mixed = mixed();
     figures.note(format!("mixed: {}", words(&mixed)));
     figure(figures, "verdict, mixed", "all hits", &mixed, &vec![1; OUTCOMES]);
     figure(figures, "verdict, mixed", "random, few misses: 1 in 20", &mixed, &kept(&mixed, OUTCOMES, 20));
@@ -38,8 +37,13 @@ pub fn measure(figures: &mut Figures) {
     figure(figures, "verdict, slowest of a search", &input, &limits, &kept(&limits, OUTCOMES, rarity));
 }
 
+/// Eight limits of all kinds, of window 12.
+pub fn mixed() -> Vec<Limit> {
+    [(0, 3, 12), (1, 2, 12), (2, 8, 12), (3, 11, 0)].map(|(kind, x, k)| Limit { kind, x, k }).repeat(2)
+}
+
 /// Each outcome is by chance one in `rarity` a miss, unless the set then wouldn't keep the pattern.
-fn kept(limits: &[Limit], outcomes: usize, rarity: usize) -> Vec<u8> {
+pub fn kept(limits: &[Limit], outcomes: usize, rarity: usize) -> Vec<u8> {
     let states = states(limits);
     let mut draw = Draw::new(91);
     let mut state = states[0];

@@ -4,7 +4,7 @@ use mathlib.Core.Bool.{Bool}
 use mathlib.Core.List.{List, [], _∷_, _++_, append-assoc, append-nil}
 use Prim.Native.Nat.{ℕ, zero, suc, _+_, _*_, _^_, _≤_, _<_}
 use native.Mathlib.Nat.{add-zero}
-use native.Mathlib.Numerals.{add-one}
+use native.Mathlib.Numerals.{add-one, towards-suc}
 use native.Mathlib.Omega.{arith}
 use lib.ListN.{length, set, take, drop, length-append, take-append-drop}
 use lib.Pow.{pow-mono}
@@ -13,7 +13,7 @@ use Rattle.layout.specs.Bytes.{byteAt, fourBytes}
 use Rattle.layout.proofs.Runs.{one-more}
 use Rattle.patterns.specs.Outcome.{bit}
 use Rattle.patterns.proofs.Numbers.{bit-le}
-use Rattle.night_log.specs.Bytes.{outcomeAt, byteFrom, packed}
+use Rattle.night_log.specs.Bytes.{outcomeAt, byteFrom, halfFrom, packed}
 
 -- the number that the n outcomes from outcome i on write, the oldest in the highest bit
 abbrev pub bitsFrom : List Bool → (i n : ℕ) → ℕ
@@ -34,6 +34,9 @@ module _ (p : List Bool) (i : ℕ) where
 
   pub bits-eight : bitsFrom p i 8 ≡ byteFrom p i
   bits-eight = omega (arith, ap (λ z. bit (outcomeAt p z)) (add-zero i))
+
+  pub halves : halfFrom p i * 16 + halfFrom p (i + 4) ≡ byteFrom p i
+  halves = simp towards-suc (omega arith)
 
 -- the bytes so far past the head of a buffer d
 abbrev pub packedTo : List Bool → List ℕ → ℕ → List ℕ

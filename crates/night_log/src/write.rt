@@ -2,16 +2,43 @@
 // Refuses by 15 for too many outcomes, then by 13, then by 9, and a refusal writes nothing.
 ghost use mathlib.Core.Path.{_≡_};
 ghost use mathlib.Core.List.{_++_};
-ghost use Prim.Native.Nat.{_≤_, _<_};
+ghost use Prim.Native.Nat.{_+_, _≤_, _<_};
 ghost use lib.ListN.{length, take, drop};
 ghost use Rattle.patterns.specs.Outcome.{outcomes, bit};
-ghost use Rattle.night_log.specs.Bytes.{packedSize, sizeOf, outcomeAt, byteFrom, packed, headBytes};
+ghost use Rattle.night_log.specs.Bytes.{packedSize, sizeOf, outcomeAt, byteFrom, halfFrom, packed, AllOutcomes, headBytes};
 ghost use Rattle.night_log.specs.Write.{LogWrittenAs};
 use super::packed_size;
 use layout::WriteAnswer;
 
 // The most outcomes that the four bytes of a count can say.
 const MOST_OUTCOMES: usize = 4294967295;
+
+// The bit of outcome i.
+fn bit_in(pattern: &[u8], i: usize) -> u8
+    requires { ⌜ (i < length (now pattern)) × AllOutcomes (now pattern) ⌝ }
+    ensures { λ r. ⌜ (r ≡ bit (outcomeAt (outcomes (now (pattern .entry))) i)) × (r ≤ 1) ⌝ }
+{
+    pattern[i]
+}
+
+// The number that four outcomes write. Sums of weights, and no chain of doublings: the processor adds them side by side.
+fn half_byte(pattern: &[u8], i: usize) -> u8
+    requires { ⌜ (i + 4 ≤ length (now pattern)) × AllOutcomes (now pattern) ⌝ }
+    ensures { λ r. ⌜ (r ≡ halfFrom (outcomes (now (pattern .entry))) i) × (r < 16) ⌝ }
+{
+    bit_in(pattern, i) * 8
+        + bit_in(pattern, i + 1) * 4
+        + bit_in(pattern, i + 2) * 2
+        + bit_in(pattern, i + 3)
+}
+
+// The byte of eight outcomes.
+fn full_byte(pattern: &[u8], i: usize) -> u8
+    requires { ⌜ (i + 8 ≤ length (now pattern)) × AllOutcomes (now pattern) ⌝ }
+    ensures { λ r. ⌜ r ≡ byteFrom (outcomes (now (pattern .entry))) i ⌝ }
+{
+    half_byte(pattern, i) * 16 + half_byte(pattern, i + 4)
+}
 
 // The bit of outcome i, 0 past the last one.
 fn bit_at(pattern: &[u8], i: usize) -> u8
@@ -23,8 +50,8 @@ fn bit_at(pattern: &[u8], i: usize) -> u8
     0
 }
 
-// The byte of the eight outcomes from outcome i on.
-fn byte_from(pattern: &[u8], i: usize) -> u8
+// The byte of the outcomes from outcome i on where fewer than eight may be left.
+fn last_byte(pattern: &[u8], i: usize) -> u8
     requires { ⌜ i < 4294967296 ⌝ }
     ensures { λ r. ⌜ r ≡ byteFrom (outcomes (now (pattern .entry))) i ⌝ }
 {
@@ -33,6 +60,16 @@ fn byte_from(pattern: &[u8], i: usize) -> u8
         byte = byte * 2 + bit_at(pattern, i + k);
     }
     byte
+}
+
+fn byte_from(pattern: &[u8], i: usize) -> u8
+    requires { ⌜ (i < 4294967296) × AllOutcomes (now pattern) ⌝ }
+    ensures { λ r. ⌜ r ≡ byteFrom (outcomes (now (pattern .entry))) i ⌝ }
+{
+    if i + 8 <= pattern.len() {
+        return full_byte(pattern, i);
+    }
+    last_byte(pattern, i)
 }
 
 // The length field, the version and the count.
@@ -47,7 +84,7 @@ fn put_head(out: &mut [u8], count: usize)
 
 // The outcomes, from byte 9 on.
 fn put_outcomes(pattern: &[u8], out: &mut [u8])
-    requires { ⌜ (length (now pattern) < 4294967296) × (sizeOf (length (now pattern)) ≤ length (now out)) ⌝ }
+    requires { ⌜ (length (now pattern) < 4294967296) × (sizeOf (length (now pattern)) ≤ length (now out)) × AllOutcomes (now pattern) ⌝ }
     ensures { λ _. ⌜ now (out .exit) ≡ take 9 (now (out .entry)) ++ packed (outcomes (now (pattern .entry))) 0 (packedSize (length (now (pattern .entry)))) ++ drop (sizeOf (length (now (pattern .entry)))) (now (out .entry)) ⌝ }
 {
     let size = packed_size(pattern.len());

@@ -29,7 +29,7 @@ mul-byte-from : tie.Need-mul-byte-from Inv-loop μ-loop
 mul-byte-from c = search needs
 
 byte-from-requires : tie.Need-byte-from-requires Inv-loop μ-loop
-byte-from-requires c κs = omega (arith, c .before .before .packed-size .ensures, c .before .before .before .before .before .pre .0)
+byte-from-requires c κs = (omega (arith, c .before .before .packed-size .ensures, c .before .before .before .before .before .pre .0), c .before .before .before .before .before .pre .2)
 
 add-out : tie.Need-add-out Inv-loop μ-loop
 add-out c = search needs

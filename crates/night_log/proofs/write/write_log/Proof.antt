@@ -13,7 +13,8 @@ use Rattle.layout.proofs.Rows.{first-here, first-skip, too-short, long-enough, 
 use Rattle.layout.proofs.Runs.{put-next}
 use Rattle.layout.proofs.Write.{written-by}
 use Rattle.patterns.specs.Outcome.{outcome, outcomes, outcomeRows}
-use Rattle.night_log.specs.Bytes.{packedSize, sizeOf, packed, headBytes, logOf}
+use Rattle.patterns.proofs.Outcomes.{outcomes-passed}
+use Rattle.night_log.specs.Bytes.{packedSize, sizeOf, packed, headBytes, logOf, AllOutcomes}
 use Rattle.night_log.specs.Rows.{mostOutcomes, writeRows}
 use Rattle.night_log.specs.Write.{LogWrittenAs}
 use Rattle.night_log.proofs.write.write_log.Statement.{statement}
@@ -45,8 +46,14 @@ module _ (c : tie.Else2) where
   few : length pattern ≤ mostOutcomes
   few = omega (arith, c .before .before .if1 .left)
 
+  good : first (outcomeRows pattern 0) ≡ passed
+  good = c .before .first-bad .ensures .1 ∙ (simp (le-ltb _ _ (c .if2 .left)))
+
+  all-outcomes : AllOutcomes pattern
+  all-outcomes = outcomes-passed pattern 0 .0 good
+
   at-room : first (writeRows pattern out) ≡ first (roomRow out (sizeOf (length pattern)) ∷ [])
-  at-room = few-rows pattern out few ∙ passed-before (outcomeRows pattern 0) (roomRow out (sizeOf (length pattern)) ∷ []) (c .before .first-bad .ensures .1 ∙ (simp (le-ltb _ _ (c .if2 .left))))
+  at-room = few-rows pattern out few ∙ passed-before (outcomeRows pattern 0) (roomRow out (sizeOf (length pattern)) ∷ []) good
 
 -- the length needed
 sized : (c : tie.After-packed-size) → 9 + c .packed-size .result ≡ sizeOf (length (pattern (c .before)))
@@ -86,7 +93,7 @@ put-outcomes-requires : tie.Need-put-outcomes-requires
 put-outcomes-requires c κs =
     let h = c .before .before .before in
     let i = h .before .before in
-    (omega (arith, few (i .before .before)), omega (arith, sized (i .before), i .if3 .left, h .put-head .kept .0))
+    (omega (arith, few (i .before .before)), omega (arith, sized (i .before), i .if3 .left, h .put-head .kept .0), all-outcomes (i .before .before))
 
 same-length : tie.Need-same-length
 same-length c = search needs

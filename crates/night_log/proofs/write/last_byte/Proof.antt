@@ -1,12 +1,12 @@
--- `night_log::write::byte_from` meets its contract: the invariant is the number that the outcomes so far write. Assumes nothing.
+-- `night_log::write::last_byte` meets its contract: the invariant is the number that the outcomes so far write. Assumes nothing.
 use mathlib.Core.Path.{_≡_, refl, ap, _∙_}
 use Prim.Native.Nat.{_+_, _*_, _-_, _≤_}
 use native.Mathlib.Omega.{arith}
 use borrow.Author.Needs.{needs}
 use Rattle.patterns.specs.Outcome.{outcomes}
 use Rattle.night_log.proofs.Turns.{bitsFrom, bits-room, bits-more, bits-eight}
-use Rattle.night_log.proofs.write.byte_from.Statement.{statement}
-use Rattle.night_log.proofs.write.byte_from.Tie as tie
+use Rattle.night_log.proofs.write.last_byte.Statement.{statement}
+use Rattle.night_log.proofs.write.last_byte.Tie as tie
 
 abbrev Inv-loop : tie.InvT-loop
 Inv-loop pattern i byte₀ k₀ byte k = (k ≤ 8) × (byte ≡ bitsFrom (outcomes pattern) i k)
@@ -51,8 +51,8 @@ returns c =
     let e : l .loop .k ≡ 8 = omega arith in
     l .loop .inv .1 ∙ ap (bitsFrom (outcomes (s .pattern .now)) (s .i)) e ∙ bits-eight (outcomes (s .pattern .now)) (s .i)
 
-pub byte-from-spec : {M : Type 1} → statement M
-byte-from-spec =
+pub last-byte-spec : {M : Type 1} → statement M
+last-byte-spec =
     tie.close
     (tie.spec
     Inv-loop
