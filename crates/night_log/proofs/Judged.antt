@@ -1,9 +1,8 @@
 -- Judging a log says what judging its outcomes as bytes says. Assumes nothing.
-use mathlib.Core.Path.{_≡_, refl, sym, ap, ap₂, _∙_, subst}
+use mathlib.Core.Path.{_≡_, refl, sym, ap, _∙_, subst}
 use mathlib.Core.Bool.{Bool, true, false}
 use mathlib.Core.List.{List, [], _∷_, map}
-use Prim.Native.Nat.{ℕ, suc, _≤_, _<_}
-use native.Mathlib.Omega.{arith}
+use Prim.Native.Nat.{ℕ, suc}
 use borrow.Author.Tests.{le-ltb}
 use Rattle.layout.specs.Refusal.{passed, first}
 use Rattle.layout.proofs.Rows.{and-then, first-append, first-skip}
@@ -13,7 +12,7 @@ use Rattle.meaning.specs.Longest.{longest}
 use Rattle.sets.specs.Bytes.{setOf}
 use Rattle.sets.specs.Rows.{setRows}
 use Rattle.verdict.specs.declared.Judgement.{Judgement}
-use Rattle.verdict.specs.Judge.{Verdict, judgeRows, JudgedAs}
+use Rattle.verdict.specs.Judge.{Verdict, JudgedAs}
 use Rattle.verdict.proofs.OneResult.{judged-one-result}
 use Rattle.night_log.specs.Bytes.{outcomesOf}
 use Rattle.night_log.specs.Rows.{logRows}

@@ -1,16 +1,16 @@
 -- What was written is the log of the pattern: it is accepted, and a reader gives the pattern back, outcome by outcome, and then the end for ever. Assumes nothing.
-use mathlib.Core.Path.{_≡_, sym, ap, ap₂, _∙_, subst}
-use mathlib.Core.List.{List, _++_}
+use mathlib.Core.Path.{_≡_, sym, ap, _∙_, subst}
+use mathlib.Core.List.{List}
 use Prim.Native.Nat.{ℕ}
 use native.Mathlib.Omega.{arith}
-use lib.ListN.{length, take, drop, length-append, length-map}
+use lib.ListN.{length, take, drop, length-map}
 use lib.Seq.{take-at}
 use Rattle.layout.specs.declared.WriteAnswer.the-variants.{Written}
 use Rattle.layout.specs.Refusal.{passed, first}
 use Rattle.layout.specs.Write.{bufferWhen, lengthWhen}
 use Rattle.patterns.specs.Outcome.{outcome, outcomes}
 use Rattle.night_log.specs.declared.LogRead.{LogRead}
-use Rattle.night_log.specs.Bytes.{packedSize, sizeOf, packed, logOf}
+use Rattle.night_log.specs.Bytes.{packedSize, sizeOf, logOf}
 use Rattle.night_log.specs.Rows.{logRows, writeRows}
 use Rattle.night_log.specs.Write.{LogWrittenAs}
 use Rattle.night_log.specs.Calls.{Calls, HandsInOrder, EndsAfter}

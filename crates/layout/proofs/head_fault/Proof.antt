@@ -1,5 +1,5 @@
 -- `layout::head_fault` meets its contract: each return is a case of the head. Assumes nothing.
-use mathlib.Core.Path.{_≡_, sym, _∙_}
+use mathlib.Core.Path.{sym, _∙_}
 use native.Mathlib.Omega.{arith}
 use borrow.Author.Needs.{needs}
 use Rattle.layout.proofs.Head.{some-fault, head-short, head-unequal, head-other, head-right}

@@ -1,5 +1,5 @@
 -- `night_log::open_log` meets its contract: the number that `fault` gives is the refusal. Assumes nothing.
-use mathlib.Core.Path.{_≡_, sym, _∙_}
+use mathlib.Core.Path.{sym, _∙_}
 use native.Mathlib.Omega.{arith}
 use borrow.Author.Needs.{needs}
 use Rattle.layout.proofs.Head.{some-fault, no-fault}

@@ -1,5 +1,5 @@
 -- `verdict::judge`: each refusal is the first row that holds, and what is left is what `judge_outcomes` ensures. Assumes nothing.
-use mathlib.Core.Path.{_≡_, sym, _∙_, subst}
+use mathlib.Core.Path.{sym, _∙_, subst}
 use borrow.Author.Needs.{needs}
 use borrow.Author.Tests.{lt-ltb, le-ltb}
 use Rattle.layout.specs.Refusal.{first}

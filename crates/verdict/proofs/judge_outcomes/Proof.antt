@@ -1,5 +1,5 @@
 -- `verdict::judge_outcomes` meets its contract: the invariant is that the outcomes so far stand. Assumes nothing.
-use mathlib.Core.Path.{_≡_, refl, subst}
+use mathlib.Core.Path.{refl, subst}
 use Prim.Native.Nat.{_-_, _≤_}
 use native.Mathlib.Omega.{arith}
 use borrow.Author.Needs.{needs}

@@ -1,12 +1,12 @@
 -- `night_log::judge::judge_packed` meets its contract: the invariant is that the outcomes so far stand. Assumes nothing.
-use mathlib.Core.Path.{_≡_, refl, sym, _∙_, subst}
+use mathlib.Core.Path.{refl, sym, _∙_, subst}
 use Prim.Native.Nat.{_-_, _≤_}
 use native.Mathlib.Omega.{arith}
 use borrow.Author.Needs.{needs}
 use Rattle.layout.specs.Refusal.{first}
 use Rattle.verdict.specs.Turn.{Stands, Turned}
 use Rattle.verdict.proofs.Turns.{stands-first, stands-last, turned-kept, turned-lost}
-use Rattle.night_log.specs.Bytes.{outcomeIn, outcomesOf}
+use Rattle.night_log.specs.Bytes.{outcomesOf}
 use Rattle.night_log.proofs.Outcomes.{outcomes-length, outcomes-at}
 use Rattle.night_log.proofs.judge.judge_packed.Statement.{statement}
 use Rattle.night_log.proofs.judge.judge_packed.Tie as tie

@@ -1,5 +1,5 @@
 -- `night_log::write::full_byte` meets its contract: two halves are the byte. Assumes nothing.
-use mathlib.Core.Path.{_≡_, ap₂, _∙_}
+use mathlib.Core.Path.{ap₂, _∙_}
 use Prim.Native.Nat.{_+_, _*_}
 use borrow.Author.Needs.{needs}
 use Rattle.patterns.specs.Outcome.{outcomes}

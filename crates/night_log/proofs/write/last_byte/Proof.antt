@@ -1,6 +1,6 @@
 -- `night_log::write::last_byte` meets its contract: the invariant is the number that the outcomes so far write. Assumes nothing.
 use mathlib.Core.Path.{_≡_, refl, ap, _∙_}
-use Prim.Native.Nat.{_+_, _*_, _-_, _≤_}
+use Prim.Native.Nat.{_-_, _≤_}
 use native.Mathlib.Omega.{arith}
 use borrow.Author.Needs.{needs}
 use Rattle.patterns.specs.Outcome.{outcomes}

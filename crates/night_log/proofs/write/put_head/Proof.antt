@@ -1,5 +1,5 @@
 -- `night_log::write::put_head` meets its contract: two numbers of four bytes, and the version between them. Assumes nothing.
-use mathlib.Core.Path.{_≡_, ap, _∙_}
+use mathlib.Core.Path.{ap, _∙_}
 use mathlib.Core.List.{_++_}
 use Prim.Native.Nat.{_+_}
 use native.Mathlib.Omega.{arith}
