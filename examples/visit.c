@@ -33,7 +33,8 @@ int main(int count, char *names[]) {
         size_t visit_len = read_file(names[i], visit, sizeof visit);
         floe_verdict verdict = floe_log_judge(limits, limits_len, visit, visit_len);
         if (verdict.refused) {
-            fprintf(stderr, "%s: refused by %" PRIu64 " at %" PRIu64 "\n", names[i], verdict.refused, verdict.at);
+            const char *faulty = verdict.refused <= FLOE_REFUSED_LIMIT_X ? names[1] : names[i];
+            fprintf(stderr, "%s: refused by %" PRIu64 " at %" PRIu64 "\n", faulty, verdict.refused, verdict.at);
             status = 1;
         } else if (verdict.kept) {
             printf("%s: kept\n", names[i]);

@@ -8,7 +8,7 @@ use std::path::{Path, PathBuf};
 use std::process::ExitCode;
 use std::{env, fs};
 
-use floelinnet::{judge_log, Verdict};
+use floelinnet::{judge_log, read_set, LimitSet, Verdict};
 
 fn main() -> ExitCode {
     let names: Vec<PathBuf> = env::args_os().skip(1).map(PathBuf::from).collect();
@@ -16,13 +16,13 @@ fn main() -> ExitCode {
         eprintln!("which limits and logs? As in: visit sets/breath.limits logs/calm.log");
         return ExitCode::FAILURE;
     };
-    let set = match fs::read(limits) {
+    let set = match set(limits) {
         Ok(set) => set,
-        Err(error) => return failed(limits, &error),
+        Err(error) => return failed(limits, &*error),
     };
     let mut status = ExitCode::SUCCESS;
     for log in logs {
-        match verdict(&set, log) {
+        match verdict(set.bytes(), log) {
             Ok(verdict) => println!("{}: {verdict}", log.display()),
             Err(error) => status = failed(log, &*error),
         }
@@ -30,7 +30,11 @@ fn main() -> ExitCode {
     status
 }
 
-/// The bytes are judged as they come: what is no set or no log, the library refuses.
+fn set(limits: &Path) -> Result<LimitSet, Box<dyn Error>> {
+    Ok(read_set(&fs::read(limits)?)?)
+}
+
+/// The bytes are judged as they come: what is no log, the library refuses.
 fn verdict(set: &[u8], log: &Path) -> Result<Verdict, Box<dyn Error>> {
     Ok(judge_log(set, &fs::read(log)?)?)
 }

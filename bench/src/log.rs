@@ -31,12 +31,15 @@ fn judged(figures: &mut Figures, input: &str, limits: &[Limit], pattern: &[u8]) 
         &mut || use_up(floe::verdict::judge(black_box(&set), black_box(pattern))),
         &mut || use_up(plain::log::judge(black_box(&set), black_box(&log))),
     ]);
-    let beside = ["floe_judge of the same outcomes as bytes", "unpacked, then each window once, afresh"];
-    for (beside, &time) in beside.into_iter().zip(&times[1..]) {
+    let beside = [
+        ("floe_judge of the same outcomes as bytes", "125,009 bytes, beside it 1,000,000, read just before"),
+        ("unpacked, then each window once, afresh", "125,009 bytes, read just before; beside it one buffer, made anew"),
+    ];
+    for ((beside, buffers), &time) in beside.into_iter().zip(&times[1..]) {
         figures.add(Figure {
             what: "judge a log, mixed",
             input,
-            buffers: "125,009 bytes, read just before; none written",
+            buffers,
             unit: Unit::NanosecondsPerOutcome(pattern.len()),
             archive: times[0],
             beside,

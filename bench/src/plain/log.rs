@@ -1,7 +1,7 @@
 //! A plain packer, one plain call of a reader and a plain judge of night logs, with the tests that the rules name.
 
-use super::sets::Refusal;
-use super::verdict::{each_window_once, Lost};
+use super::sets::{read, Refusal};
+use super::verdict::{windows_once, Lost, HITS};
 
 #[inline(never)]
 pub fn write(pattern: &[u8], log: &mut [u8]) -> Result<usize, Refusal> {
@@ -35,12 +35,15 @@ pub fn next(place: u64, log: &[u8]) -> Result<(Option<bool>, u64), Refusal> {
     Ok((Some(outcome(log, place as usize)), place + 1))
 }
 
-/// Unpacks the log and looks at each window once.
+/// Unpacks the log between hits and looks at each window once.
 pub fn judge(set: &[u8], log: &[u8]) -> Result<Lost, Refusal> {
-    super::sets::read(set)?;
+    let set = read(set)?;
     let count = count(log)?;
-    let pattern: Vec<u8> = (0..count).map(|place| u8::from(outcome(log, place))).collect();
-    each_window_once(set, &pattern)
+    let mut around = vec![1; count + 2 * HITS.len()];
+    for (place, byte) in around[HITS.len()..][..count].iter_mut().enumerate() {
+        *byte = u8::from(outcome(log, place));
+    }
+    Ok(windows_once(set.limits(), &around))
 }
 
 fn outcome(log: &[u8], place: usize) -> bool {

@@ -10,11 +10,16 @@ pub type Lost = Option<(usize, usize)>;
 /// job by job, for the job and the limit.
 pub fn each_window_once(set: &[u8], pattern: &[u8]) -> Result<Lost, Refusal> {
     let (set, around) = prepare(set, pattern)?;
+    Ok(windows_once(set.limits(), &around))
+}
+
+/// The same of outcomes that were tested, with [`HITS`] before and after them.
+pub fn windows_once(limits: &[Limit], around: &[u8]) -> Lost {
     let kept = |limit: &Limit| around.windows(width(limit)).all(|window| holds(limit, window));
-    if set.limits().iter().all(kept) {
-        return Ok(None);
+    if limits.iter().all(kept) {
+        return None;
     }
-    Ok(job_by_job(set.limits(), pattern))
+    job_by_job(limits, &around[HITS.len()..around.len() - HITS.len()])
 }
 
 /// After each job all windows that contain it, with hits after the job.
@@ -31,7 +36,7 @@ fn prepare(set: &[u8], pattern: &[u8]) -> Result<(super::sets::Set, Vec<u8>), Re
     Ok((set, [&HITS, pattern, &HITS].concat()))
 }
 
-const HITS: [u8; 12] = [1; 12];
+pub const HITS: [u8; 12] = [1; 12];
 
 fn job_by_job(limits: &[Limit], pattern: &[u8]) -> Lost {
     // The newest twelve outcomes with hits after them: a window that contains the newest starts among them.

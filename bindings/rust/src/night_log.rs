@@ -70,8 +70,9 @@ pub fn judge_log(set: &[u8], log: &[u8]) -> Result<Verdict, Refused> {
 /// Each outcome, [`HIT`] or [`MISS`], comes in a [`Result`], since each call tests the log anew, as
 /// [`open`](LogReader::open) does. The bytes are lent to the reader and can't change while it lives, so no call on a
 /// log that was opened is refused. Should one be all the same, because memory failed, that is an [`Err`] and never the
-/// end: the place stays, and as long as the log is faulty each further call is an `Err` too. So stop at the first; and
-/// an adapter that drops one, such as `skip`, comes to the next.
+/// end: the place stays, and as long as the log is faulty each further call is an `Err` too. So stop at the first, as
+/// `?` does and collecting into a `Result`. An adapter that drops one, such as `skip`, comes to the next, and one that
+/// goes on past each, such as `flatten` or collecting a list of `Result`s, would not end.
 ///
 /// ```
 /// use floelinnet::{LogReader, Refused, HIT, MISS};

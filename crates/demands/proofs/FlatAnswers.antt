@@ -131,6 +131,12 @@ refused-flat ask.Panic h = (λ z. absurd (omega arith), λ z. absurd (z refl))
 refused-flat ask.Lost h = (λ z. absurd (omega arith), λ z. absurd (z refl))
 refused-flat (ask.Refused n v) h = (λ z e. omega (arith, h n v refl), λ z. refl)
 
+pub refused-read : (a : LogAnswer) (place : ℕ) → ((n v : ℕ) → a ≡ log.Refused n v → 1 ≤ n) → (flatRead a place .answer ≡ 3) ↔ (flatRead a place .refused ≡ 0 → ⊥)
+refused-read log.Miss place h = (λ z. absurd (omega arith), λ z. absurd (z refl))
+refused-read log.Hit place h = (λ z. absurd (omega arith), λ z. absurd (z refl))
+refused-read log.End place h = (λ z. absurd (omega arith), λ z. absurd (z refl))
+refused-read (log.Refused n v) place h = (λ z e. omega (arith, h n v refl), λ z. refl)
+
 -- the verdict by its fields: a job is counted from 1
 pub kept-flat : (a : Judgement) → (flatVerdict a .kept ≡ 1) ↔ (a ≡ judge.Kept)
 kept-flat a = (kept a, ap (λ z. flatVerdict z .kept))

@@ -43,7 +43,7 @@ use Rattle.demands.specs.Judging.{KeepsLog}
 use Rattle.demands.specs.Reading.{ByOutcomes}
 use Rattle.demands.proofs.Numbers.{log-numbers, LogWriteNumber, log-write-numbers, LogJudgeNumber, log-judge-numbers}
 use Rattle.demands.proofs.Answers.{by-written, by-judged, by-opened, by-read}
-use Rattle.demands.proofs.FlatAnswers.{opens-refuses, written-opens, verdict-opens, opening-opens, read-opens, kept-flat, kept-or-not, lost-flat}
+use Rattle.demands.proofs.FlatAnswers.{opens-refuses, written-opens, verdict-opens, opening-opens, read-opens, kept-flat, kept-or-not, lost-flat, refused-read}
 use Rattle.demands.proofs.Demand2.{log-verdict-kept, log-verdict-lost}
 
 -- Writing a log.
@@ -136,11 +136,12 @@ module _ (b : List ℕ) (place : ℕ) (f : FloeLogRead) (flat : FlatAnswer (Read
   known : f ≡ flatLogRead (readWhen (first (logRows b)) (outcomesOf b) place)
   known = flat .2 ∙ ap flatLogRead (read-known b place (flat .0) (flat .1))
 
-  -- a refusal is answered by 3 and keeps the place
-  pub floe-log-next-refused : (n v : ℕ) → first (logRows b) ≡ refused n v → (f .answer ≡ 3) × (f .place ≡ place)
-  floe-log-next-refused n v e =
-      let q = known ∙ ap (λ t. flatLogRead (readWhen t (outcomesOf b) place)) e in
-      (ap (λ z. z .answer) q, ap (λ z. z .place) q)
+  -- 3 is answered exactly on a refusal, which keeps the place
+  pub floe-log-next-refused : (f .answer ≡ 3) ↔ (f .refused ≡ 0 → ⊥)
+  floe-log-next-refused = rw (flat .2) (refused-read (flat .0 .answer) (flat .0 .place) (λ n v q. from-15 n (log-read-refuses b place (flat .0) (flat .1) .numbers n v q)))
+
+  pub floe-log-next-keeps-place : (n v : ℕ) → first (logRows b) ≡ refused n v → f .place ≡ place
+  floe-log-next-keeps-place n v e = ap (λ z. z .place) (known ∙ ap (λ t. flatLogRead (readWhen t (outcomesOf b) place)) e)
 
   -- and on a log the answer is that of the outcome at the place
   pub floe-log-next-hands-out : first (logRows b) ≡ passed → ByOutcomes (outcomesOf b) place (f .answer) (f .place)

@@ -1,4 +1,4 @@
-// Answers that several functions give, or that stand beside a guard, as flat records.
+// Answers as flat records: those that several functions give, that stand beside a guard, or that a log's reader gives.
 ghost use mathlib.Core.Path.{_≡_};
 ghost use Rattle.floelinnet.specs.Flat.{flatWritten, flatVerdict, flatStart, flatAsk, flatTell, flatOpened, flatRead};
 use super::FloeDone;
@@ -77,7 +77,7 @@ pub(crate) fn asked(answer: guard::AskAnswer) -> FloeRowAsked
         guard::AskAnswer::Panic => FloeRowAsked {
             refused: 0,
             at: 0,
-            answer: 1,
+            answer: 1, // panic
         },
         guard::AskAnswer::Lost => FloeRowAsked {
             refused: 0,

@@ -1,5 +1,5 @@
 -- What the head of a layout says, case by case, what it holds where both its rows are passed, and what a fault that was found as a number decides. Assumes nothing.
-use mathlib.Core.Path.{_≡_, refl, ap, _∙_}
+use mathlib.Core.Path.{_≡_, refl, sym, ap, _∙_}
 use mathlib.Core.List.{List, _++_}
 use Prim.Native.Nat.{ℕ, zero, suc, _-_, _≤_, _<_}
 use native.Mathlib.Omega.{arith}
@@ -8,7 +8,7 @@ use lib.ListN.{length}
 use Rattle.layout.specs.Bytes.{lengthField, version}
 use Rattle.layout.specs.Refusal.{Row, passed, refused, first}
 use Rattle.layout.specs.Head.{headRows, faultRow}
-use Rattle.layout.proofs.Rows.{passed-first, refused-before, passed-before, or-none}
+use Rattle.layout.proofs.Rows.{passed-not-refused, passed-first, refused-before, passed-before, or-none}
 
 -- a number that isn't 0 is a refusal, and 0 is none
 pub some-fault : (n at : ℕ) → 1 ≤ n → faultRow n at ≡ refused n at
@@ -17,6 +17,12 @@ some-fault (suc n) at h = refl
 
 pub no-fault : (n at : ℕ) → n ≡ 0 → faultRow n at ≡ passed
 no-fault n at e = ap (λ z. faultRow z at) e
+
+pub head-fault-one-result : (n m : ℕ) → faultRow n 0 ≡ faultRow m 0 → n ≡ m
+head-fault-one-result zero zero e = refl
+head-fault-one-result zero (suc m) e = absurd (passed-not-refused e)
+head-fault-one-result (suc n) zero e = absurd (passed-not-refused (sym e))
+head-fault-one-result (suc n) (suc m) e = cc
 
 -- rows whose fault was found as a number, and rows that come after them
 module _ (a b : List Row) (n at : ℕ) (e : first a ≡ faultRow n at) where

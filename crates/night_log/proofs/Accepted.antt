@@ -1,5 +1,5 @@
 -- What bytes hold where all log rows are passed, that the rows are passed where they hold it, and the cases in which they aren't. Assumes nothing.
-use mathlib.Core.Path.{_≡_, ap, _∙_}
+use mathlib.Core.Path.{_≡_, _∙_}
 use mathlib.Core.Bool.{not}
 use mathlib.Core.List.{List, [], _∷_}
 use Prim.Native.Nat.{ℕ, _+_}
@@ -8,9 +8,9 @@ use borrow.Author.Tests.{eq-eqb, ne-eqb, eqb-true, not-false}
 use lib.Dec.{eqb}
 use lib.ListN.{length}
 use Rattle.layout.specs.Bytes.{lengthField, version}
-use Rattle.layout.specs.Refusal.{Row, row, Tested, passed, refused, first}
+use Rattle.layout.specs.Refusal.{Row, row, passed, refused, first}
 use Rattle.layout.specs.Head.{headRows}
-use Rattle.layout.proofs.Rows.{and-then, first-append, both-passed, passed-first}
+use Rattle.layout.proofs.Rows.{both-passed, passed-first, refused-before, passed-before}
 use Rattle.layout.proofs.Head.{head-passed, head-right}
 use Rattle.night_log.specs.Bytes.{packedSize, sizeOf, countOf}
 use Rattle.night_log.specs.Rows.{unusedIn, logRows}
@@ -35,23 +35,20 @@ accepted-log b e =
     record { size = omega arith; field = rest; versioned = one; unused = eqb-true (unusedIn b) 0 (not-false _ u) }
 
 module _ (b : List ℕ) where
-  by-head : (t : Tested) → first (headRows 9 15 15 b) ≡ t → first (logRows b) ≡ and-then t (first (ownRows b))
-  by-head t h = first-append (headRows 9 15 15 b) (ownRows b) ∙ ap (λ z. and-then z (first (ownRows b))) h
-
   pub log-head : (n v : ℕ) → first (headRows 9 15 15 b) ≡ refused n v → first (logRows b) ≡ refused n v
-  log-head n v h = by-head (refused n v) h
+  log-head n v h = refused-before (headRows 9 15 15 b) (ownRows b) h
 
   pub log-length : first (headRows 9 15 15 b) ≡ passed → (lengthField b ≡ 5 + packedSize (countOf b) → ⊥) → first (logRows b) ≡ refused 15 0
   unfolding first
-  log-length h n = by-head passed h ∙ (simp (ne-eqb _ _ n))
+  log-length h n = passed-before (headRows 9 15 15 b) (ownRows b) h ∙ (simp (ne-eqb _ _ n))
 
   pub log-unused : first (headRows 9 15 15 b) ≡ passed → lengthField b ≡ 5 + packedSize (countOf b) → (unusedIn b ≡ 0 → ⊥) → first (logRows b) ≡ refused 16 0
   unfolding first
-  log-unused h e n = by-head passed h ∙ (simp (eq-eqb _ _ e, ne-eqb _ _ n))
+  log-unused h e n = passed-before (headRows 9 15 15 b) (ownRows b) h ∙ (simp (eq-eqb _ _ e, ne-eqb _ _ n))
 
   pub log-right : first (headRows 9 15 15 b) ≡ passed → lengthField b ≡ 5 + packedSize (countOf b) → unusedIn b ≡ 0 → first (logRows b) ≡ passed
   unfolding first
-  log-right h e n = by-head passed h ∙ (simp (eq-eqb _ _ e, eq-eqb _ _ n))
+  log-right h e n = passed-before (headRows 9 15 15 b) (ownRows b) h ∙ (simp (eq-eqb _ _ e, eq-eqb _ _ n))
 
 pub passed-log : (b : List ℕ) → Log b → first (logRows b) ≡ passed
 passed-log b l = log-right b (head-right 9 15 15 b (omega arith) (omega arith) (l .versioned)) (l .field) (l .unused)

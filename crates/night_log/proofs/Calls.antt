@@ -1,4 +1,4 @@
--- The calls of a reader on an accepted log hand out its outcomes in order, one a call, and then the end; on the log of a pattern that is the pattern. Assumes nothing.
+-- The calls of a reader on an accepted log hand out its outcomes in order, one a call, and then the end; on the log of a pattern that is the pattern. So do those of a reader that keeps the bytes. Assumes nothing.
 use mathlib.Core.Path.{_≡_, refl, ap, _∙_, subst}
 use mathlib.Core.Logic.{dite}
 use mathlib.Core.Bool.{Bool}
@@ -8,14 +8,17 @@ use native.Mathlib.Numerals.{add-one}
 use native.Mathlib.Decide.{decLt}
 use native.Mathlib.Omega.{arith}
 use borrow.Author.Tests.{lt-ltb, le-ltb}
+use denote.Ref.{RefT, now}
 use lib.ListN.{length}
 use Rattle.layout.specs.Refusal.{passed, first}
+use Rattle.night_log.specs.declared.LogAnswer.{LogAnswer}
 use Rattle.night_log.specs.declared.LogAnswer.the-variants.{End}
 use Rattle.night_log.specs.declared.LogRead.{LogRead}
+use Rattle.night_log.specs.declared.reader.LogReader.{LogReader}
 use Rattle.night_log.specs.Bytes.{outcomeAt, logOf, outcomesOf}
 use Rattle.night_log.specs.Rows.{logRows}
 use Rattle.night_log.specs.Read.{ReadAs}
-use Rattle.night_log.specs.Calls.{answerOf, Calls, HandsInOrder, EndsAfter}
+use Rattle.night_log.specs.Calls.{answerOf, Calls, HandsInOrder, EndsAfter, ReaderCalls, readsOf}
 use Rattle.night_log.proofs.OneResult.{gives, readWhen, read-known}
 use Rattle.night_log.proofs.RoundTrip.{log-accepted, log-outcomes}
 
@@ -59,3 +62,18 @@ module _ (p : List Bool) (reads : ℕ → LogRead) (c : Calls (logOf p) reads) w
 
   pub reads-end : EndsAfter p reads
   reads-end = subst (λ q. EndsAfter q reads) (log-outcomes p) (calls-end (logOf p) reads (log-accepted p) c)
+
+-- the calls of a reader that keeps the bytes are calls on these bytes
+module _ (log : RefT (List ℕ)) (readers : ℕ → LogReader) (answers : ℕ → LogAnswer) (c : ReaderCalls log readers answers) where
+  same-log : (n : ℕ) → readers n .log ≡ log
+  same-log zero = c .opened .0
+  same-log (suc n) = c .goes-on n .same-log ∙ same-log n
+
+  pub reader-calls : Calls (now log) (readsOf readers answers)
+  reader-calls = record {
+    begins = subst (λ i. ReadAs (now log) i (readsOf readers answers 0)) (c .opened .1) (at-log 0);
+    goes-on = λ n. at-log (suc n);
+  }
+    where
+      at-log : (n : ℕ) → ReadAs (now log) (readers n .place) (readsOf readers answers n)
+      at-log n = subst (λ l. ReadAs (now l) (readers n .place) (readsOf readers answers n)) (same-log n) (c .goes-on n .read)

@@ -26,7 +26,7 @@ use Rattle.night_log.specs.Rows.{logRows, writeRows}
 use Rattle.night_log.specs.Read.{openSays, OpenedAs, says, HandsOut, ReadAs}
 use Rattle.night_log.specs.Write.{LogWrittenAs}
 use Rattle.night_log.specs.Judge.{logJudgeRows, LogJudgedAs}
-use Rattle.night_log.specs.Reader.{NextAs}
+use Rattle.night_log.specs.Reader.{ReaderOpenedAs, NextAs}
 use Rattle.night_log.specs.Calls.{answerOf}
 
 same-opening : (r r′ : OpenAnswer) → openSays r ≡ openSays r′ → r ≡ r′
@@ -68,8 +68,7 @@ log-judge-one-result widest set log = judged-one-result (logJudgeRows widest set
 abbrev holds : RefT (List ℕ) → ℕ → OpenAnswer → LogReader
 holds log place opened = record { log = log; place = place; opened = opened }
 
-pub open-one-result : (log : RefT (List ℕ)) (r r′ : LogReader)
-    → (r .log ≡ log) × (r .place ≡ 0) × OpenedAs (now log) (r .opened) → (r′ .log ≡ log) × (r′ .place ≡ 0) × OpenedAs (now log) (r′ .opened) → r ≡ r′
+pub open-one-result : (log : RefT (List ℕ)) (r r′ : LogReader) → ReaderOpenedAs log r → ReaderOpenedAs log r′ → r ≡ r′
 open-one-result log r r′ (l, p, o) (l′, p′, o′) =
     ap₂ {C = LogReader} (λ x y. holds x y (r .opened)) (l ∙ sym l′) (p ∙ sym p′) ∙ ap (holds (r′ .log) (r′ .place)) (opened-one-result (now log) (r .opened) (r′ .opened) o o′)
 

@@ -14,6 +14,7 @@ use Rattle.layout.proofs.Runs.{one-more}
 use Rattle.patterns.specs.Outcome.{bit}
 use Rattle.patterns.proofs.Numbers.{bit-le}
 use Rattle.night_log.specs.Bytes.{outcomeAt, byteFrom, halfFrom, packed}
+use Rattle.night_log.proofs.Packing.{packed-length}
 
 -- the number that the n outcomes from outcome i on write, the oldest in the highest bit
 abbrev pub bitsFrom : List Bool → (i n : ℕ) → ℕ
@@ -43,11 +44,6 @@ abbrev pub packedTo : List Bool → List ℕ → ℕ → List ℕ
 packedTo p d j = take 9 d ++ packed p 0 j ++ drop (9 + j) d
 
 module _ (p : List Bool) (d : List ℕ) where
-  length-packed : (i n : ℕ) → length (packed p i n) ≡ n
-  unfolding packed
-  length-packed i zero = refl
-  length-packed i (suc n) = ap suc (length-packed (suc i) n)
-
   packed-more : (j : ℕ) → packed p 0 j ++ byteFrom p (8 * j) ∷ [] ≡ packed p 0 (j + 1)
   unfolding packed
   packed-more = one-more (λ j. byteFrom p (8 * j) ∷ []) (packed p) (λ i. refl) (λ i n. refl)
@@ -59,7 +55,7 @@ module _ (p : List Bool) (d : List ℕ) where
   pub pack-turn : (j : ℕ) → 9 + j < length d → set (packedTo p d j) (9 + j) (byteFrom p (8 * j)) ≡ packedTo p d (j + 1)
   pack-turn j h =
       let w = take 9 d ++ packed p 0 j in
-      let n : length w ≡ 9 + j = length-append (take 9 d) (packed p 0 j) ∙ ap₂ _+_ (length-take-le 9 d (omega arith)) (length-packed 0 j) in
+      let n : length w ≡ 9 + j = length-append (take 9 d) (packed p 0 j) ∙ ap₂ _+_ (length-take-le 9 d (omega arith)) (packed-length p 0 j) in
       let v = byteFrom p (8 * j) in
       let g : suc (9 + j) ≡ 9 + (j + 1) = omega arith in
       ap (λ z. set (w ++ z) (9 + j) v) (drop-cons d (9 + j) 0 h)

@@ -1,7 +1,7 @@
 -- RULES, Bytes of a night log: "the length field, 5 and the bytes that the outcomes take", "the version, 1", "how many outcomes there are", and "the outcomes, eight to a byte, the oldest in the high bit; the low bits of the last byte that no outcome takes are zero".
 use mathlib.Core.Bool.{Bool, false}
 use mathlib.Core.List.{List, [], _∷_, _++_}
-use Prim.Native.Nat.{ℕ, zero, suc, _+_, _-_, _*_, _/_, _%_, _^_, _≤_, _<_}
+use Prim.Native.Nat.{ℕ, zero, suc, _+_, _-_, _*_, _/_, _%_, _^_}
 use lib.ListN.{length, getD}
 use Rattle.layout.specs.Bytes.{byteAt, fourAt, fourBytes}
 use Rattle.patterns.specs.Outcome.{outcome}
@@ -42,10 +42,6 @@ headBytes n = fourBytes (5 + packedSize n) ++ (1 ∷ fourBytes n)
 -- the log of a pattern
 abbrev pub logOf : List Bool → List ℕ
 logOf p = headBytes (length p) ++ packed p 0 (packedSize (length p))
-
--- the bytes of a pattern that 13 lets pass
-abbrev pub AllOutcomes : List ℕ → Type 0
-AllOutcomes b = (j : ℕ) → j < length b → byteAt b j ≤ 1
 
 -- how many outcomes bytes hold
 abbrev pub countOf : List ℕ → ℕ

@@ -1,8 +1,6 @@
 // A reader keeps hold of the caller's bytes and its place in them, and hands out one outcome a call.
 // Opening and each call refuse by 15, then by 16, and a refusal keeps the place.
-ghost use mathlib.Core.Path.{_≡_};
-ghost use Rattle.night_log.specs.Read.{OpenedAs};
-ghost use Rattle.night_log.specs.Reader.{NextAs};
+ghost use Rattle.night_log.specs.Reader.{ReaderOpenedAs, NextAs};
 use super::LogAnswer;
 use super::OpenAnswer;
 use super::open_log;
@@ -17,7 +15,7 @@ pub struct LogReader<'a> {
 
 impl<'a> LogReader<'a> {
     pub fn open(log: &'a [u8]) -> LogReader<'a>
-        ensures { λ r. ⌜ (r .log ≡ log .entry) × (r .place ≡ 0) × OpenedAs (now (log .entry)) (r .opened) ⌝ }
+        ensures { λ r. ⌜ ReaderOpenedAs (log .entry) r ⌝ }
     {
         LogReader {
             log,

@@ -13,7 +13,7 @@ use lib.ListN.{length, getD, take, drop, drop-of-length-le, length-map, List·ge
 use lib.Seq.{drop-cons, take-suc}
 use Rattle.layout.specs.Refusal.{row, passed, refused, first}
 use Rattle.layout.proofs.Rows.{first-here, first-skip, passed-first, passed-not-refused}
-use Rattle.patterns.specs.Outcome.{outcome, outcomes, outcomeRows}
+use Rattle.patterns.specs.Outcome.{AllOutcomes, outcomeRows}
 use Rattle.patterns.specs.Tested.{badPlace}
 
 module _ (b : List ℕ) (i : ℕ) where
@@ -35,7 +35,7 @@ module _ (b : List ℕ) (i : ℕ) where
   outcome-end h = ap (λ z. first (outcomeRows z i)) (drop-of-length-le b {i = i} h)
 
 -- nothing is refused exactly where every byte is 0 or 1
-pub outcomes-passed : (b : List ℕ) (k : ℕ) → (first (outcomeRows b k) ≡ passed) ↔ ((i : ℕ) → i < length b → getD b i 0 ≤ 1)
+pub outcomes-passed : (b : List ℕ) (k : ℕ) → (first (outcomeRows b k) ≡ passed) ↔ AllOutcomes b
 unfolding outcomeRows first
 outcomes-passed [] k = (λ e i h. absurd (omega arith), λ h. refl)
 outcomes-passed (x ∷ b) k = (
@@ -43,7 +43,7 @@ outcomes-passed (x ∷ b) k = (
   λ h. first-skip 13 k (ltb 1 x) (outcomeRows b (suc k)) (le-ltb 1 x (h 0 (omega arith))) ∙ outcomes-passed b (suc k) .1 (λ i l. h (suc i) (omega arith)),
 )
   where
-    each : ltb 1 x ≡ false → ((i : ℕ) → i < length b → getD b i 0 ≤ 1) → (i : ℕ) → i < length (x ∷ b) → getD (x ∷ b) i 0 ≤ 1
+    each : ltb 1 x ≡ false → AllOutcomes b → AllOutcomes (x ∷ b)
     each good rest zero l = ltb-false 1 x good
     each good rest (suc i) l = rest i (omega arith)
 
@@ -62,10 +62,3 @@ bad-place-one-result n r t h l e = dite (decLt r n) (λ a. dite (decLt t n) (bot
 
     one : {i j : ℕ} → i < n → (j < n → ⊥) → badPlace i n ≡ badPlace j n → ⊥
     one {i} {j} a b q = passed-not-refused (sym (past j b) ∙ sym q ∙ here i a)
-
--- the outcomes of one byte more
-pub outcomes-more : (b : List ℕ) (i : ℕ) → i < length b → take (i + 1) (outcomes b) ≡ take i (outcomes b) ++ outcome (getD b i 0) ∷ []
-outcomes-more b i h =
-    ap (λ z. take z (outcomes b)) (add-one i)
-    ∙ take-suc (outcomes b) i false (omega (arith, length-map b outcome))
-    ∙ ap {B = List Bool} (λ z. take i (outcomes b) ++ z ∷ []) (List·getD-map outcome b i 0)

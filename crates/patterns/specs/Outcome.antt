@@ -2,8 +2,9 @@
 -- A hit is true and a miss is false.
 use mathlib.Core.Bool.{Bool, true, false, not}
 use mathlib.Core.List.{List, [], _∷_, map}
-use Prim.Native.Nat.{ℕ, suc}
+use Prim.Native.Nat.{ℕ, suc, _≤_, _<_}
 use lib.Dec.{eqb, ltb}
+use lib.ListN.{length, getD}
 use Rattle.layout.specs.Refusal.{Row, row}
 
 -- the outcome that a byte says
@@ -22,3 +23,7 @@ bit false = 0
 unfoldable pub outcomeRows : List ℕ → ℕ → List Row
 outcomeRows [] i = []
 outcomeRows (byte ∷ bytes) i = row 13 (ltb 1 byte) i ∷ outcomeRows bytes (suc i)
+
+-- the bytes that 13 lets pass
+abbrev pub AllOutcomes : List ℕ → Type 0
+AllOutcomes b = (i : ℕ) → i < length b → getD b i 0 ≤ 1

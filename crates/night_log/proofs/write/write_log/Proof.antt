@@ -12,9 +12,9 @@ use Rattle.layout.specs.Write.{roomRow, says, lengthOf, lengthWhen, bufferWhen}
 use Rattle.layout.proofs.Rows.{first-here, first-skip, too-short, long-enough, refused-before, passed-before}
 use Rattle.layout.proofs.Runs.{put-next}
 use Rattle.layout.proofs.Write.{written-by}
-use Rattle.patterns.specs.Outcome.{outcome, outcomes, outcomeRows}
+use Rattle.patterns.specs.Outcome.{outcome, outcomes, outcomeRows, AllOutcomes}
 use Rattle.patterns.proofs.Outcomes.{outcomes-passed}
-use Rattle.night_log.specs.Bytes.{packedSize, sizeOf, packed, headBytes, logOf, AllOutcomes}
+use Rattle.night_log.specs.Bytes.{packedSize, sizeOf, packed, headBytes, logOf}
 use Rattle.night_log.specs.Rows.{mostOutcomes, writeRows}
 use Rattle.night_log.specs.Write.{LogWrittenAs}
 use Rattle.night_log.proofs.write.write_log.Statement.{statement}
