@@ -55,10 +55,10 @@ fn written_and_read(figures: &mut Figures) {
     let mut plain_log = vec![0; log.len()];
     assert_eq!(plain::log::write(&pattern, &mut plain_log), Ok(log.len()));
     assert_eq!(log, plain_log);
-    let times = side_by_side(&mut [
-        &mut || use_up(floe::log::write(black_box(&pattern), black_box(&mut log))),
-        &mut || use_up(plain::log::write(black_box(&pattern), black_box(&mut plain_log))),
-    ]);
+    let times =
+        side_by_side(&mut [&mut || use_up(floe::log::write(black_box(&pattern), black_box(&mut log))), &mut || {
+            use_up(plain::log::write(black_box(&pattern), black_box(&mut plain_log)))
+        }]);
     figures.add(Figure {
         what: "write a log",
         input: "a million random outcomes",
