@@ -54,6 +54,7 @@ test:
 outside: dist-links table-prints
 	$(CARGO) test --release --offline --quiet
 	$(CARGO) run --release --offline --quiet --example recorder | diff - examples/recorder.expected
+	$(CARGO) run --release --offline --quiet --example visit sets/breath.limits logs/*.log | diff - examples/visit.expected
 
 # What C and C++ programs are built with, in a folder that can be moved elsewhere.
 .PHONY: dist
@@ -63,11 +64,13 @@ dist: $(ARCHIVE)
 	@install -D -m 644 floelinnet.pc dist/lib/pkgconfig/floelinnet.pc
 	@echo 'dist/ has the archive, the header and a file for pkg-config'
 
-# README's two ways in: the example in C, and the first command, which prints its three lines and no other.
+# README's ways in: the examples in C, and the first command, which prints its three lines and no other.
 .PHONY: dist-links table-prints
 dist-links: dist
 	$(CC) examples/recorder.c $$(PKG_CONFIG_PATH=dist/lib/pkgconfig pkg-config --cflags --libs floelinnet) -o target/recorder
 	$(RUN) target/recorder | diff - examples/recorder.expected
+	$(CC) examples/visit.c $$(PKG_CONFIG_PATH=dist/lib/pkgconfig pkg-config --cflags --libs floelinnet) -o target/visit
+	$(RUN) target/visit sets/breath.limits logs/*.log | diff - examples/visit.expected
 
 table-prints:
 	$(MAKE) --no-print-directory table LIMITS=sets/any-hit-1-of-2.limits | diff - <(printf '%s\n' 'states 2' '0 1 0' '1 - 0')

@@ -124,6 +124,74 @@ static void print_row_asked(floe_row_asked asked) {
     end();
 }
 
+static void print_opened(floe_log_opened opened) {
+    head("LogOpened", opened.refused, opened.at);
+    field(", place: ", opened.place);
+    end();
+}
+
+static void print_read(floe_log_read read) {
+    head("LogRead", read.refused, read.at);
+    field(", answer: ", read.answer);
+    field(", place: ", read.place);
+    end();
+}
+
+/* Logs: written into a block of the length that the writer asks for, read to the end and past it, judged, and refused. */
+static void logs(const uint8_t *set, size_t set_len, const uint8_t *faulty, size_t faulty_len, uint8_t *nothing) {
+    const uint8_t night_bytes[] = {1, 1, 0, 1, 1, 1, 0, 1, 0, 0};
+    const uint8_t no_night_bytes[] = {1, 2, 0};
+    uint8_t *night = lent(night_bytes, sizeof night_bytes);
+    uint8_t *no_night = lent(no_night_bytes, sizeof no_night_bytes);
+
+    floe_written needed = floe_log_write(night, sizeof night_bytes, nothing, 0);
+    print_written(needed);
+    size_t length = needed.at;
+    uint8_t *log = (uint8_t *)block(length);
+    print_written(floe_log_write(night, sizeof night_bytes, log, length));
+    print_bytes(log, length);
+    puts("");
+    print_written(floe_log_write(night, sizeof night_bytes, log, length - 1));
+    print_written(floe_log_write(no_night, sizeof no_night_bytes, log, 0));
+    print_bytes(log, length);
+    puts("");
+    uint8_t *empty = (uint8_t *)block(9);
+    print_written(floe_log_write(nothing, 0, empty, 9));
+    print_bytes(empty, 9);
+    puts("");
+
+    floe_log_opened opened = floe_log_open(log, length);
+    print_opened(opened);
+    floe_log_read read = floe_log_next(opened.place, log, length);
+    for (; read.answer < FLOE_LOG_END; read = floe_log_next(read.place, log, length)) print_read(read);
+    print_read(read);
+    print_read(floe_log_next(read.place, log, length));
+    print_read(floe_log_next(UINT64_MAX, log, length));
+    print_read(floe_log_next(0, empty, 9));
+
+    print_verdict(floe_log_judge(set, set_len, log, length));
+    print_verdict(floe_log_judge(set, set_len, empty, 9));
+    print_verdict(floe_log_judge(faulty, faulty_len, nothing, 0));
+
+    uint8_t *spoilt = lent(log, length);
+    spoilt[length - 1] |= 1;
+    print_opened(floe_log_open(spoilt, length));
+    print_read(floe_log_next(7, spoilt, length));
+    print_verdict(floe_log_judge(set, set_len, spoilt, length));
+    spoilt[4] = 2;
+    print_opened(floe_log_open(spoilt, length));
+    print_read(floe_log_next(7, spoilt, length));
+    print_verdict(floe_log_judge(set, set_len, spoilt, length));
+    print_opened(floe_log_open(nothing, 0));
+    print_read(floe_log_next(UINT64_MAX, nothing, 0));
+
+    free(night);
+    free(no_night);
+    free(log);
+    free(empty);
+    free(spoilt);
+}
+
 int main(void) {
     /* RowMiss(2) with AnyMiss(2,5); AnyMiss(3,7); and AnyHit(1,2) with a second limit of no kind. */
     const uint8_t set_bytes[] = {0, 0, 0, 8, 1, 2, 3, 2, 0, 2, 2, 5};
@@ -213,6 +281,8 @@ int main(void) {
     print_row(row, count);
     print_done(floe_row_start(row, count, 1, table, length));
     print_row(row, count);
+
+    logs(set, sizeof set_bytes, faulty, sizeof faulty_bytes, nothing);
 
     free(set);
     free(other);

@@ -1,4 +1,4 @@
-/* Each function called as a statement, its answer dropped: a compiler that can say so has to, twelve times. */
+/* Each function called as a statement, its answer dropped: a compiler that can say so has to, sixteen times. */
 #include <floelinnet.h>
 
 void drop_everything(floe_set set, floe_guard guard, floe_guard *row, uint16_t *work, uint8_t *bytes);
@@ -16,4 +16,8 @@ void drop_everything(floe_set set, floe_guard guard, floe_guard *row, uint16_t *
     floe_row_start(row, 9, 0, bytes, 9);
     floe_row_ask(row, 9, 0, bytes, 9);
     floe_row_tell(row, 9, 0, bytes, 9, FLOE_HIT);
+    floe_log_write(bytes, 9, bytes + 9, 9);
+    floe_log_open(bytes, 9);
+    floe_log_next(0, bytes, 9);
+    floe_log_judge(bytes, 9, bytes, 9);
 }

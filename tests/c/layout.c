@@ -66,5 +66,14 @@ int main(void) {
     FIELD(floe_row_asked, refused);
     FIELD(floe_row_asked, at);
     FIELD(floe_row_asked, answer);
+    RECORD(floe_log_opened);
+    FIELD(floe_log_opened, refused);
+    FIELD(floe_log_opened, at);
+    FIELD(floe_log_opened, place);
+    RECORD(floe_log_read);
+    FIELD(floe_log_read, refused);
+    FIELD(floe_log_read, at);
+    FIELD(floe_log_read, answer);
+    FIELD(floe_log_read, place);
     return 0;
 }

@@ -16,6 +16,10 @@ static void fail(int line, const char *fact) {
     exit(1);
 }
 
+#if FLOE_LOG_SIZE(8) != 10 || FLOE_LOG_SIZE(9) != 11
+#error "FLOE_LOG_SIZE is a number that the preprocessor can compare"
+#endif
+
 static uint16_t work[FLOE_WORK_ENTRIES];
 static uint8_t table[FLOE_LONGEST_TABLE + 4];
 
@@ -95,6 +99,32 @@ static void answers(void) {
     HOLDS(floe_row_ask(&guard, 1, 1, one_of_two, sizeof one_of_two).answer == FLOE_REFUSED);
 }
 
+/* FLOE_LOG_SIZE, with n of any type and looked at once, and what a reader answers. */
+static void logs(void) {
+    const uint8_t pattern[80] = {FLOE_MISS, FLOE_HIT};
+    uint8_t log[FLOE_LOG_SIZE(sizeof pattern)];
+    for (size_t n = 0; n <= sizeof pattern; n++) {
+        HOLDS(floe_log_write(pattern, n, log, FLOE_LOG_SIZE(n)).length == FLOE_LOG_SIZE(n));
+        HOLDS(floe_log_write(pattern, n, log, FLOE_LOG_SIZE(n) - 1).refused == FLOE_REFUSED_ROOM);
+        HOLDS(floe_log_write(pattern, n, log, 0).at == FLOE_LOG_SIZE(n));
+    }
+    int once = 8;
+    HOLDS(FLOE_LOG_SIZE(once++) == 10 && once == 9);
+    HOLDS(FLOE_LOG_SIZE((uint8_t)255) == 9 + 32 && FLOE_LOG_SIZE(INT32_MAX) == 9 + (UINT64_C(1) << 28));
+    HOLDS(FLOE_LOG_SIZE(UINT32_MAX) == 9 + (UINT64_C(1) << 29) && FLOE_LOG_SIZE(1 | 8) == 11);
+
+    size_t length = floe_log_write(pattern, 2, log, sizeof log).length;
+    HOLDS(floe_log_open(log, length).refused == FLOE_ACCEPTED);
+    HOLDS(floe_log_next(0, log, length).answer == FLOE_LOG_MISS);
+    HOLDS(floe_log_next(1, log, length).answer == FLOE_LOG_HIT);
+    HOLDS(floe_log_next(2, log, length).answer == FLOE_LOG_END);
+    HOLDS(floe_log_next(0, log, length - 1).answer == FLOE_LOG_REFUSED);
+    HOLDS(FLOE_LOG_MISS == (int)FLOE_MISS && FLOE_LOG_HIT == (int)FLOE_HIT);
+    HOLDS(floe_log_open(log, length - 1).refused == FLOE_REFUSED_LOG);
+    log[length - 1] |= 1;
+    HOLDS(floe_log_open(log, length).refused == FLOE_REFUSED_UNUSED_BITS);
+}
+
 static void refusals(void) {
     const uint8_t version_2[] = {0, 0, 0, 5, 2, 1, FLOE_ANY_HIT, 1, 2}, two_limits[] = {0, 0, 0, 5, 1, 2, 0, 1, 2};
     const uint8_t none[] = {0, 0, 0, 2, 1, 0}, one_of_two[] = {0, 0, 0, 5, 1, 1, FLOE_ANY_HIT, 1, 2}, no_outcome[] = {2};
@@ -123,9 +153,12 @@ int main(void) {
     SAY(FLOE_MOST_GUARDS);
     SAY(FLOE_MISS);
     SAY(FLOE_HIT);
+    SAY(FLOE_LOG_SIZE(0));
+    SAY(FLOE_LOG_SIZE(86401));
     kinds();
     sizes();
     answers();
+    logs();
     refusals();
     puts("every name is as the library has it");
     return 0;

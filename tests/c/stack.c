@@ -21,6 +21,7 @@ static uint16_t work[FLOE_WORK_ENTRIES];
 static size_t set_len, table_len;
 static const uint8_t pattern[] = {0, 0, 1, 0, 1, 1, 0, 0, 1, 0, 1, 1, 1, 1, 0, 1, 0, 1, 1, 0};
 static floe_guard row[FLOE_MOST_GUARDS], guard;
+static uint8_t night[FLOE_LOG_SIZE(sizeof pattern)], spare[FLOE_LOG_SIZE(sizeof pattern)];
 
 /* Each call of a function is one more of its name; answers are used, so that the calls stay. */
 static volatile uint64_t used_up;
@@ -51,6 +52,14 @@ CALL(floe_row_ask, 0, floe_row_ask(row, FLOE_MOST_GUARDS, 3, table, table_len))
 CALL(floe_row_ask, 1, floe_row_ask(row, FLOE_MOST_GUARDS, 16, table, table_len))
 CALL(floe_row_tell, 0, floe_row_tell(row, FLOE_MOST_GUARDS, 3, table, table_len, FLOE_MISS))
 CALL(floe_row_tell, 1, floe_row_tell(row, FLOE_MOST_GUARDS, 3, table, table_len, 2))
+CALL(floe_log_write, 0, floe_log_write(pattern, sizeof pattern, spare, sizeof spare))
+CALL(floe_log_write, 1, floe_log_write(pattern, sizeof pattern, spare, 0))
+CALL(floe_log_open, 0, floe_log_open(night, sizeof night))
+CALL(floe_log_open, 1, floe_log_open(night, sizeof night - 1))
+CALL(floe_log_next, 0, floe_log_next(sizeof pattern - 1, night, sizeof night))
+CALL(floe_log_next, 1, floe_log_next(0, night, sizeof night - 1))
+CALL(floe_log_judge, 0, floe_log_judge(set, set_len, night, sizeof night))
+CALL(floe_log_judge, 1, floe_log_judge(set, set_len, night, sizeof night - 1))
 
 static void nothing(void) {
     used_up = 0;
@@ -79,7 +88,8 @@ static void say(const char *name, void (*one)(void), void (*other_one)(void)) {
 int main(void) {
     set_len = floe_write_set(all_kinds, set, sizeof set).length;
     table_len = floe_build(set, set_len, work, FLOE_WORK_ENTRIES, table, sizeof table).length;
-    if (table_len == 0) return 1;
+    size_t night_len = floe_log_write(pattern, sizeof pattern, night, sizeof night).length;
+    if (table_len == 0 || night_len != sizeof night) return 1;
     SAY(floe_read_set);
     SAY(floe_write_set);
     SAY(floe_judge);
@@ -92,5 +102,9 @@ int main(void) {
     SAY(floe_row_start);
     SAY(floe_row_ask);
     SAY(floe_row_tell);
+    SAY(floe_log_write);
+    SAY(floe_log_open);
+    SAY(floe_log_next);
+    SAY(floe_log_judge);
     return 0;
 }

@@ -1,7 +1,7 @@
-//! Bytes of a set or a table with faults in them, often several at once.
+//! Bytes of a set, a table or a log with faults in them, often several at once.
 
 use crate::draw::Draw;
-use crate::reference::sets;
+use crate::reference::{night_log, sets};
 
 /// Values next to a bound of the rules, and those that a wrong width or sign would confuse.
 const TELLING: [u8; 16] = [0, 1, 2, 3, 4, 5, 7, 8, 9, 11, 12, 13, 16, 127, 128, 255];
@@ -100,4 +100,43 @@ pub fn drawn_table(draw: &mut Draw, most: usize) -> Vec<u8> {
     }
     mend_length(&mut bytes);
     bytes
+}
+
+/// A log in which 16 and each of the four faults of 15 is present by its own chance.
+pub fn faulty_log(draw: &mut Draw) -> Vec<u8> {
+    let jobs = draw.below(40);
+    let mut bytes = night_log::log(&draw.pattern(jobs, 2));
+    let unused = 8 * (bytes.len() - 9) - jobs;
+    if unused > 0 && draw.one_in(3) {
+        *bytes.last_mut().expect("a log has a head") |= 1 << draw.below(unused);
+    }
+    if draw.one_in(6) {
+        bytes[8] = draw.of(&[0, 1, 7, 8, 9, bytes[8].wrapping_sub(1), bytes[8] + 1, bytes[8] + 8, 255]);
+    }
+    if draw.one_in(8) {
+        bytes[5 + draw.below(3)] = draw.of(&TELLING);
+    }
+    if draw.one_in(6) {
+        bytes[4] = draw.of(&[0, 2, 129]);
+    }
+    if draw.one_in(6) {
+        let length = draw.of(&[4, 8, 9, bytes.len() - 1, bytes.len() + 1]);
+        bytes.resize(length, 0);
+        mend_length(&mut bytes);
+    }
+    if draw.one_in(10) {
+        bytes[draw.below(4)] ^= 1 << draw.below(8);
+    }
+    bytes
+}
+
+/// Bytes of a log that are mostly refused, by faults of either kind.
+pub fn spoilt_log(draw: &mut Draw) -> Vec<u8> {
+    if draw.one_in(2) {
+        return faulty_log(draw);
+    }
+    let jobs = draw.below(40);
+    let mut log = night_log::log(&draw.pattern(jobs, 2));
+    damage(draw, &mut log);
+    log
 }

@@ -2,12 +2,13 @@
 //!
 //! "a refused reading fills it with a set of count 0 and zeros, a refused comparison with a pattern of length 0, and a
 //! refused start with a guard that isn't lost, in state 0, told nothing"; what an answer doesn't use is zero too, but for
-//! the answer of a refused ask, which is 3.
+//! the answer of a refused ask or of a reader's refused call, which is 3.
 
 use crate::floe;
 use crate::reference::compare::{Between, RefusedSet};
 use crate::reference::guard::{Answer, Guard};
 use crate::reference::limits::Limit;
+use crate::reference::night_log::Read;
 use crate::reference::verdict::Lost;
 use crate::reference::Refusal;
 
@@ -44,6 +45,22 @@ pub fn verdict(answer: Result<Option<Lost>, Refusal>) -> floe::Verdict {
         Err(refusal) => (verdict.refused, verdict.at) = numbers(refusal),
     }
     verdict
+}
+
+/// "a refusal keeps the place (0 on opening)"
+pub fn log_opened(answer: Result<(), Refusal>) -> floe::LogOpened {
+    let floe::Done { refused, at } = done(answer);
+    floe::LogOpened { refused, at, place: 0 }
+}
+
+pub fn log_read(read: Read) -> floe::LogRead {
+    let floe::Done { refused, at } = done(read.answer.map(drop));
+    let answer = match read.answer {
+        Ok(Some(outcome)) => u64::from(outcome),
+        Ok(None) => 2,
+        Err(_) => 3,
+    };
+    floe::LogRead { refused, at, answer, place: read.place }
 }
 
 pub fn comparison(answer: Result<Between, RefusedSet>) -> floe::Comparison {

@@ -2,7 +2,8 @@
 //! tests/c_programs/layout.rs holds the places of the records' fields fixed.
 
 pub use floelinnet::raw::{
-    Asked, Built, Checked, Comparison, Done, Guard, Limit, RowAsked, Set, SetRead, Started, Told, Verdict, Written,
+    Asked, Built, Checked, Comparison, Done, Guard, Limit, LogOpened, LogRead, RowAsked, Set, SetRead, Started, Told,
+    Verdict, Written,
 };
 
 pub mod sets {
@@ -31,4 +32,8 @@ pub mod guard {
 
 pub mod row {
     pub use floelinnet::raw::{row_ask as ask, row_start as start, row_tell as tell};
+}
+
+pub mod log {
+    pub use floelinnet::raw::{log_judge as judge, log_next as next, log_open as open, log_write as write};
 }

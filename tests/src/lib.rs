@@ -11,5 +11,7 @@ pub mod damage;
 pub mod draw;
 pub mod expected;
 pub mod floe;
+pub mod memory;
 pub mod pages;
 pub mod reference;
+pub mod tools;

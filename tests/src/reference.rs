@@ -5,6 +5,7 @@
 pub mod compare;
 pub mod guard;
 pub mod limits;
+pub mod night_log;
 pub mod row;
 pub mod sets;
 pub mod table;

@@ -1,13 +1,13 @@
 //! The safe face in bindings/rust against the archive's plain records: each of its answers, put back into a record, is
 //! the record that the same call gives.
 
-use floelinnet::{Comparison, Guard, Refused, Verdict};
-use floelinnet_tests::damage::{damage, drawn_table, spoilt_set};
+use floelinnet::{log_size, Comparison, Guard, LogReader, Refused, Verdict};
+use floelinnet_tests::damage::{damage, drawn_table, spoilt_log, spoilt_set};
 use floelinnet_tests::draw::{cases, Draw};
 use floelinnet_tests::reference::compare::RefusedSet;
 use floelinnet_tests::reference::limits::Limit;
 use floelinnet_tests::reference::verdict::Lost;
-use floelinnet_tests::reference::{guard, sets, Refusal};
+use floelinnet_tests::reference::{guard, night_log, sets, Refusal};
 use floelinnet_tests::{expected, floe};
 
 fn refusal(refused: Refused) -> Refusal {
@@ -25,6 +25,13 @@ fn limit(limit: floelinnet::Limit) -> Limit {
 
 fn standing(guard: Guard) -> guard::Guard {
     guard::Guard { state: guard.state, lost: guard.lost }
+}
+
+fn lost(verdict: Verdict) -> Option<Lost> {
+    match verdict {
+        Verdict::Kept => None,
+        Verdict::Lost { job, limit } => Some(Lost { job, limit }),
+    }
 }
 
 fn heard(answer: floelinnet::Answer) -> guard::Answer {
@@ -57,10 +64,7 @@ fn sets_verdicts_and_comparisons() {
         if draw.one_in(4) {
             pattern.push(2);
         }
-        let answer = floelinnet::judge(&set, &pattern).map(|verdict| match verdict {
-            Verdict::Kept => None,
-            Verdict::Lost { job, limit } => Some(Lost { job, limit }),
-        });
+        let answer = floelinnet::judge(&set, &pattern).map(lost);
         let found = floe::verdict::judge(&set, &pattern);
         assert_eq!(expected::verdict(answer.map_err(refusal)), found, "{set:02X?} on {pattern:?}");
         seen[found.refused as usize] += 1;
@@ -179,4 +183,47 @@ fn tables_guards_and_rows() {
         assert_eq!((expected::done(answer), &row), (found, &plain_row), "{shown}");
     }
     assert!([0, 10, 11, 12, 13, 14].iter().all(|&number| seen[number] > 100), "{seen:?}");
+}
+
+/// A reader goes on where the plain call says, to the end and past it, and says how many outcomes are left.
+#[test]
+fn night_logs() {
+    let mut draw = Draw::new(85);
+    let mut seen = [0; 17];
+    for _ in 0..cases(20_000) {
+        let jobs = draw.below(40);
+        let mut pattern = draw.pattern(jobs, 2);
+        if draw.one_in(8) {
+            pattern.push(2);
+        }
+        let needed = log_size(pattern.len());
+        let mut log = vec![7; draw.of(&[0, needed - 1, needed, needed, needed + 1])];
+        let mut plain_log = log.clone();
+        let answer = floelinnet::write_log(&pattern, &mut log).map(|length| log[..length].to_vec());
+        let found = floe::log::write(&pattern, &mut plain_log);
+        assert_eq!(expected::written(&answer.map_err(refusal)), found, "{pattern:?} into {} bytes", log.len());
+        assert_eq!(log, plain_log, "{pattern:?}");
+        seen[found.refused as usize] += 1;
+
+        let log = if draw.one_in(2) { spoilt_log(&mut draw) } else { night_log::log(&draw.pattern(jobs, 2)) };
+        let answer = LogReader::open(&log).map_err(refusal);
+        assert_eq!(expected::log_opened(answer.as_ref().map(drop).map_err(|refusal| *refusal)), floe::log::open(&log));
+        if let Ok(mut reader) = answer {
+            for left in (0..=reader.len()).rev().chain([0; 3]) {
+                assert_eq!(reader.len(), left, "{log:02X?}");
+                let found = floe::log::next(reader.place() as u64, &log);
+                let answer = reader.next().transpose().map_err(refusal);
+                let read = night_log::Read { answer, place: reader.place() as u64 };
+                assert_eq!(expected::log_read(read), found, "{log:02X?}");
+            }
+            assert_eq!(night_log::outcomes(&log).map(|outcomes| outcomes.len()), Ok(reader.place()), "{log:02X?}");
+        }
+
+        let set = drawn_set(&mut draw);
+        let answer = floelinnet::judge_log(&set, &log).map(lost).map_err(refusal);
+        let found = floe::log::judge(&set, &log);
+        assert_eq!(expected::verdict(answer), found, "{set:02X?} on {log:02X?}");
+        seen[found.refused as usize] += 1;
+    }
+    assert!([0, 1, 2, 3, 4, 5, 6, 7, 9, 13, 15, 16].iter().all(|&number| seen[number] > 50), "{seen:?}");
 }

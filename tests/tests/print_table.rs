@@ -3,7 +3,7 @@
 use std::fs::{read, read_dir};
 use std::io::Write;
 use std::path::Path;
-use std::process::{Command, Stdio};
+use std::process::Stdio;
 use std::thread::sleep;
 use std::time::Duration;
 
@@ -12,6 +12,7 @@ use floelinnet_tests::draw::{cases, Draw};
 use floelinnet_tests::reference::limits::{allowed_limits, Limit};
 use floelinnet_tests::reference::table::states;
 use floelinnet_tests::reference::{refuse, sets, Refusal};
+use floelinnet_tests::tools;
 
 /// What `rt check print_table` makes.
 const PROGRAM: &str = concat!(env!("CARGO_MANIFEST_DIR"), "/../target/bin/print_table");
@@ -21,7 +22,7 @@ const SETS: &str = concat!(env!("CARGO_MANIFEST_DIR"), "/../sets");
 fn printed_in_pieces(input: &[u8], length: usize) -> String {
     assert!(Path::new(PROGRAM).is_file(), "there is no {PROGRAM}: run `rt check print_table` in the root first");
     let mut program =
-        Command::new(PROGRAM).stdin(Stdio::piped()).stdout(Stdio::piped()).stderr(Stdio::piped()).spawn().unwrap();
+        tools::program(PROGRAM).stdin(Stdio::piped()).stdout(Stdio::piped()).stderr(Stdio::piped()).spawn().unwrap();
     let mut stdin = program.stdin.take().unwrap();
     for (number, piece) in input.chunks(length).enumerate() {
         if number > 0 {

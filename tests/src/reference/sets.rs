@@ -42,7 +42,7 @@ pub fn write(count: u64, places: &[Limit; 8], room: usize) -> Result<Vec<u8>, Re
     for (number, limit) in limits.iter().enumerate() {
         test(limit, number)?;
     }
-    // "the buffer is too short for what must be written: .. 6+3c of a set"
+    // "the buffer is shorter than what must be written: .. 6+3c of a set"
     let bytes = bytes(limits);
     if room < bytes.len() {
         return refuse(9, bytes.len());

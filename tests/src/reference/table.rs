@@ -22,7 +22,7 @@ pub fn build(set: &[u8], work_entries: usize, table_room: usize) -> Result<Vec<u
     if work_entries < WORK_ENTRIES {
         return refuse(8, 0);
     }
-    // "the buffer is too short for what must be written", with "how many bytes are needed"
+    // "the buffer is shorter than what must be written", with "how many bytes are needed"
     let table = bytes(&states(&limits));
     if table_room < table.len() {
         return refuse(9, table.len());

@@ -2,7 +2,8 @@
 
 use std::fs::{read_to_string, write};
 use std::path::PathBuf;
-use std::process::Command;
+
+use floelinnet_tests::tools;
 
 use crate::programs::{compile, file, made, output, prints};
 
@@ -42,7 +43,8 @@ fn written(recipe: &Recipe) -> PathBuf {
 fn every_recipe_in_c() {
     let recipes = recipes();
     let names: Vec<&str> = recipes.iter().map(|recipe| recipe.name.as_str()).collect();
-    let want = ["table_of.h", "row.c", "two_limits.c", "lost.c", "make_table.c", "stored.c", "refused.c"];
+    let want =
+        ["table_of.h", "row.c", "two_limits.c", "lost.c", "make_table.c", "stored.c", "refused.c", "night_log.c"];
     assert_eq!(names, want);
     for recipe in &recipes {
         let source = written(recipe);
@@ -54,7 +56,7 @@ fn every_recipe_in_c() {
         // "run while building, as `make_table > stored_table.h`"
         if recipe.name == "make_table.c" {
             let program = compile(&["gcc", "-std=c11"], &source);
-            write(made("stored_table.h"), output(&mut Command::new(program))).unwrap();
+            write(made("stored_table.h"), output(&mut tools::program(program))).unwrap();
         }
     }
 }

@@ -1,9 +1,9 @@
 //! The records lie in memory as include/floelinnet.h declares them: in C, in Rust, and by the numbers that stand here.
 
 use std::mem::{align_of, offset_of, size_of, size_of_val};
-use std::process::Command;
 
 use floelinnet_tests::floe::*;
+use floelinnet_tests::tools;
 
 use crate::programs::{compile, file, output};
 
@@ -40,10 +40,12 @@ fn rust_and_c_agree_with_the_numbers() {
         lies!(Told, floe_told, 24, 8, refused 8 at 0, at 8 at 8, guard 4 at 16),
         lies!(Done, floe_done, 16, 8, refused 8 at 0, at 8 at 8),
         lies!(RowAsked, floe_row_asked, 24, 8, refused 8 at 0, at 8 at 8, answer 8 at 16),
+        lies!(LogOpened, floe_log_opened, 24, 8, refused 8 at 0, at 8 at 8, place 8 at 16),
+        lies!(LogRead, floe_log_read, 32, 8, refused 8 at 0, at 8 at 8, answer 8 at 16, place 8 at 24),
     ];
     for compiler in [&["gcc", "-std=c11"], &["clang", "-std=c11"]] {
         let program = compile(compiler, &file("tests/c/layout.c"));
-        let in_c = output(&mut Command::new(program));
+        let in_c = output(&mut tools::program(program));
         assert_eq!(in_c.lines().collect::<Vec<_>>(), lines.concat(), "{compiler:?}");
     }
 }

@@ -5,10 +5,11 @@ mod layout;
 mod programs;
 
 use std::fs::{read_to_string, write};
-use std::process::Command;
+use std::process::{Command, Output};
 
-use floelinnet_tests::floe::{builder, compare, guard, row, sets, table, verdict, Guard};
-use programs::{file, prints, COMPILERS};
+use floelinnet_tests::floe::{builder, compare, guard, log, row, sets, table, verdict, Guard};
+use floelinnet_tests::tools;
+use programs::{file, prints, prints_given, COMPILERS};
 
 #[test]
 fn recorder() {
@@ -16,22 +17,43 @@ fn recorder() {
     prints(&file("examples/recorder.c"), &expected.lines().collect::<Vec<_>>());
 }
 
-/// README shows the program that is tried here.
 #[test]
-fn readme_shows_the_recorder() {
+fn visit() {
+    let source = file("examples/visit.c");
+    let expected = read_to_string(file("examples/visit.expected")).unwrap();
+    let files = ["sets/breath.limits", "logs/bunched.log", "logs/calm.log"];
+    prints_given(&files, &source, &expected.lines().collect::<Vec<_>>());
+
+    // "It ends with status 0 where every log was judged": a set is no log.
+    let mut program = tools::program(programs::compile(&["gcc", "-std=c11"], &source));
+    let ended = program.args(["sets/breath.limits", "logs/calm.log", "sets/breath.limits"]).current_dir(file(""));
+    let Output { status, stdout, stderr } = ended.output().unwrap();
+    let said = [stdout, stderr].map(|said| String::from_utf8(said).unwrap());
+    assert_eq!(said, ["logs/calm.log: kept\n", "sets/breath.limits: refused by 15 at 0\n"]);
+    assert_eq!(status.code(), Some(1));
+}
+
+/// README shows the programs that are tried here, and what the second prints.
+#[test]
+fn readme_shows_the_examples() {
     let readme = read_to_string(file("README.md")).unwrap();
-    let (_, shown) = readme.split_once("```c\n").expect("README shows a C program");
-    let (shown, _) = shown.split_once("```\n").expect("the C program ends");
-    assert_eq!(shown, read_to_string(file("examples/recorder.c")).unwrap());
+    let blocks = |language: &str| -> Vec<&str> {
+        let begin = format!("```{language}\n");
+        readme.split(&begin).skip(1).map(|block| block.split_once("```\n").expect("a block ends").0).collect()
+    };
+    let examples = ["examples/recorder.c", "examples/visit.c"].map(|path| read_to_string(file(path)).unwrap());
+    assert_eq!(blocks("c"), examples);
+    assert!(blocks("text").contains(&&*read_to_string(file("examples/visit.expected")).unwrap()));
 }
 
 /// How many functions the header declares.
-const FUNCTIONS: usize = 12;
+const FUNCTIONS: usize = 16;
 
 const SET: &[u8] = &[0, 0, 0, 8, 1, 2, 3, 2, 0, 2, 2, 5];
 const OTHER: &[u8] = &[0, 0, 0, 5, 1, 1, 2, 3, 7];
 const FAULTY: &[u8] = &[0, 0, 0, 8, 1, 2, 0, 1, 2, 4, 0, 1];
 const PATTERN: &[u8] = &[1, 0, 1, 0, 0, 1];
+const NIGHT: &[u8] = &[1, 1, 0, 1, 1, 1, 0, 1, 0, 0];
 
 /// The calls of calls.c, in its order.
 #[test]
@@ -112,6 +134,43 @@ fn calls() {
     line!(row::start(&mut guards, 1, &built));
     line!(guards);
 
+    let needed = log::write(NIGHT, &mut []);
+    line!(needed);
+    let mut night = vec![0; needed.at as usize];
+    line!(log::write(NIGHT, &mut night));
+    line!(night);
+    line!(log::write(NIGHT, &mut night[1..]));
+    line!(log::write(&[1, 2, 0], &mut []));
+    line!(night);
+    let mut empty = [0; 9];
+    line!(log::write(&[], &mut empty));
+    line!(empty);
+
+    let opened = log::open(&night);
+    line!(opened);
+    let mut place = opened.place;
+    for _ in 0..NIGHT.len() + 2 {
+        let read = log::next(place, &night);
+        line!(read);
+        place = read.place;
+    }
+    line!(log::next(u64::MAX, &night));
+    line!(log::next(0, &empty));
+
+    line!(log::judge(SET, &night));
+    line!(log::judge(SET, &empty));
+    line!(log::judge(FAULTY, &[]));
+
+    *night.last_mut().unwrap() |= 1;
+    for version in [1, 2] {
+        night[4] = version;
+        line!(log::open(&night));
+        line!(log::next(7, &night));
+        line!(log::judge(SET, &night));
+    }
+    line!(log::open(&[]));
+    line!(log::next(u64::MAX, &[]));
+
     prints(&file("tests/c/calls.c"), &lines.iter().map(String::as_str).collect::<Vec<_>>());
 }
 
@@ -126,25 +185,40 @@ fn names() {
         ("FLOE_MOST_GUARDS", floelinnet::MOST_GUARDS),
         ("FLOE_MISS", floelinnet::MISS.into()),
         ("FLOE_HIT", floelinnet::HIT.into()),
+        ("FLOE_LOG_SIZE(0)", floelinnet::log_size(0)),
+        ("FLOE_LOG_SIZE(86401)", floelinnet::log_size(86_401)),
     ];
     let mut lines: Vec<String> = rust.iter().map(|(name, value)| format!("{name} {value}")).collect();
     lines.push("every name is as the library has it".into());
     prints(&file("tests/c/names.c"), &lines.iter().map(String::as_str).collect::<Vec<_>>());
 }
 
-/// The forms that the header shows for a set and for a row are taken by every compiler without a warning.
+/// The forms that the header shows for a set, for a row and for a log are taken by every compiler without a warning.
+/// Those for a log count the two hits of 1 1 0, which "at most 2 misses" keep.
 #[test]
 fn shown_forms() {
     let header = read_to_string(file("include/floelinnet.h")).unwrap();
-    let shown: String = header.lines().filter(|line| line.starts_with(" *     floe_")).map(|line| &line[2..]).collect();
-    assert_eq!(shown.matches(';').count(), 2, "{shown}");
+    let shown = |line: &&str| [" *     floe_", " *     for ("].iter().any(|form| line.starts_with(form));
+    let shown: Vec<&str> = header.lines().filter(shown).map(|line| &line[2..]).collect();
+    assert_eq!(shown.len(), 2 + 5, "{shown:?}");
+    let shown = shown.join("\n");
     let program = format!(
-        "#include <floelinnet.h>\n#include <stdio.h>\nint main(void) {{\n{shown}\n\
-         printf(\"%u %d\\n\", (unsigned)set.count, row[FLOE_MOST_GUARDS - 1].lost);\nreturn 0;\n}}\n"
+        "#include <floelinnet.h>
+         #include <stdio.h>
+         int main(void) {{
+             const uint8_t pattern[] = {{1, 1, 0}}, limits[] = {{0, 0, 0, 5, 1, 1, FLOE_ANY_MISS, 2, 8}};
+             const size_t pattern_len = sizeof pattern, limits_len = sizeof limits;
+             uint8_t log[FLOE_LOG_SIZE(sizeof pattern)];
+             uint64_t hits = 0;
+             {shown}
+             printf(\"%u %d\\n\", (unsigned)set.count, row[FLOE_MOST_GUARDS - 1].lost);
+             printf(\"%u %u %u\\n\", (unsigned)hits, (unsigned)read.answer, (unsigned)verdict.kept);
+             return 0;
+         }}\n"
     );
     let source = programs::made("shown_forms.c");
     write(&source, program).unwrap();
-    prints(&source, &["2 0"]);
+    prints(&source, &["2 0", "2 2 1"]);
 }
 
 /// What the archive exports the header declares, every function with the attribute. dropped.c calls each and drops what
@@ -170,7 +244,7 @@ fn dropped_answers() {
 #[test]
 fn stack() {
     let program = programs::compile(&["gcc", "-std=c11", "-Wl,-z,now"], &file("tests/c/stack.c"));
-    let said = programs::output(&mut Command::new(program));
+    let said = programs::output(&mut tools::program(program));
     let used: Vec<(&str, usize)> = said
         .lines()
         .map(|line| line.split_once(' ').expect("a name and a number"))

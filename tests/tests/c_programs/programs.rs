@@ -1,8 +1,12 @@
 //! C and C++ programs over the header and the archive.
 
 use std::env;
+use std::io::{stderr, Write};
 use std::path::{Path, PathBuf};
 use std::process::{Command, Output};
+use std::sync::Once;
+
+use floelinnet_tests::tools;
 
 /// The compilers and the editions of both languages that the header is written for.
 pub const COMPILERS: [&[&str]; 6] = [
@@ -32,7 +36,7 @@ pub fn archive() -> PathBuf {
 
 /// The command that compiles a source with this compiler and asks for every warning.
 fn command(compiler: &[&str], source: &Path) -> Command {
-    let mut command = Command::new(compiler[0]);
+    let mut command = tools::compiler(compiler[0]);
     command.args(&compiler[1..]).args(["-Wall", "-Wextra", "-Wpedantic", "-I"]).arg(file("include")).arg(source);
     command
 }
@@ -48,18 +52,33 @@ pub fn compile(compiler: &[&str], source: &Path) -> PathBuf {
 
 /// The program prints these lines, compiled by every compiler as C and as C++. Under valgrind it does so too, with
 /// nothing read that was never written, nothing touched outside what was lent and nothing left unreleased: as C by gcc
-/// and as C++ by clang.
+/// and as C++ by clang. Where an emulator runs the program valgrind can't.
 pub fn prints(source: &Path, lines: &[&str]) {
+    prints_given(&[], source, lines);
+}
+
+/// The same of a program that is given these files, by their names from the root.
+pub fn prints_given(files: &[&str], source: &Path, lines: &[&str]) {
     for compiler in COMPILERS {
         let program = compile(compiler, source);
-        let alone = output(&mut Command::new(&program));
+        let alone = output(tools::program(&program).args(files).current_dir(file("")));
         assert_eq!(alone.lines().collect::<Vec<_>>(), lines, "{program:?}");
-        if [COMPILERS[1], COMPILERS[5]].contains(&compiler) {
+        if tools::emulator().is_some() {
+            say_no_valgrind();
+        } else if [COMPILERS[1], COMPILERS[5]].contains(&compiler) {
             let valgrind = &mut Command::new("valgrind");
             valgrind.args(["--quiet", "--error-exitcode=9", "--leak-check=full"]).arg(&program);
+            valgrind.args(files).current_dir(file(""));
             assert_eq!(output(valgrind), alone, "{program:?} under valgrind");
         }
     }
+}
+
+/// Says so once, past the test harness, which shows what a test prints only where it fails.
+fn say_no_valgrind() {
+    static SAID: Once = Once::new();
+    let line = "C and C++ programs run here without valgrind, which needs an x86-64 machine for them";
+    SAID.call_once(|| writeln!(stderr(), "{line}").unwrap());
 }
 
 /// What this compiler warns of in a source, one line a warning.
