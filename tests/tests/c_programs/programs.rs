@@ -75,6 +75,7 @@ pub fn prints_given(files: &[&str], source: &Path, lines: &[&str]) {
 }
 
 /// Says so once, past the test harness, which shows what a test prints only where it fails.
+#[allow(clippy::explicit_write)] // eprintln! goes to the harness
 fn say_no_valgrind() {
     static SAID: Once = Once::new();
     let line = "C and C++ programs run here without valgrind, which needs an x86-64 machine for them";
