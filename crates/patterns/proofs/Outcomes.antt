@@ -1,16 +1,16 @@
 -- The test for 13, place by place: a byte that is 0 or 1 hands on to the next, any other is the answer; and one place is told by what it says of a pattern. Assumes nothing.
 use mathlib.Core.Path.{_≡_, refl, sym, ap, _∙_}
 use mathlib.Core.Logic.{_↔_, dite}
-use mathlib.Core.Bool.{Bool, false}
-use mathlib.Core.List.{List, [], _∷_, _++_}
+use mathlib.Core.Bool.{false}
+use mathlib.Core.List.{List, [], _∷_}
 use Prim.Native.Nat.{ℕ, zero, suc, _+_, _≤_, _<_}
 use native.Mathlib.Numerals.{add-one}
 use native.Mathlib.Decide.{decLt}
 use native.Mathlib.Omega.{arith}
 use borrow.Author.Tests.{lt-ltb, le-ltb, ltb-false}
 use lib.Dec.{ltb}
-use lib.ListN.{length, getD, take, drop, drop-of-length-le, length-map, List·getD-map}
-use lib.Seq.{drop-cons, take-suc}
+use lib.ListN.{length, getD, drop, drop-of-length-le}
+use lib.Seq.{drop-cons}
 use Rattle.layout.specs.Refusal.{row, passed, refused, first}
 use Rattle.layout.proofs.Rows.{first-here, first-skip, passed-first, passed-not-refused}
 use Rattle.patterns.specs.Outcome.{AllOutcomes, outcomeRows}
