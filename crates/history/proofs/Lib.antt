@@ -1,8 +1,9 @@
 pub mod Shifted
 pub mod Histories
+pub mod Bits
 pub mod Runs
+pub mod Turns
 pub mod MissLaws
 pub mod Walked
-pub mod Turns
 pub mod Blocking
 pub mod OneResult

@@ -1,55 +1,93 @@
--- What a turn of each loop over a history's bits does to what the loop computes. Assumes nothing.
-use mathlib.Core.Path.{_≡_, ap, _∙_}
-use mathlib.Core.Logic.{dite}
-use mathlib.Core.Bool.{Bool, true, cond}
-use mathlib.Core.List.{List, [], _∷_}
-use Prim.Native.Nat.{ℕ, zero, suc, _+_, _-_, _*_, _/_, _%_, _≤_, _<_}
-use native.Mathlib.Decide.{ℕ-discrete}
+-- What a turn of `row_among` leaves: the run that it looked at is the row, or the outcomes after it have the row exactly when all have it. Assumes nothing.
+use mathlib.Core.Path.{_≡_, refl, sym, ap, _∙_, subst}
+use mathlib.Core.Bool.{true, false, false≢true}
+use mathlib.Core.List.{_++_}
+use Prim.Native.Nat.{ℕ, zero, suc, _+_, _-_, _/_, _%_, _^_, _≤_, _<_}
+use native.Mathlib.Nat.{mod-lt}
 use native.Mathlib.Omega.{arith}
-use borrow.Author.Tests.{eq-eqb, ne-eqb}
+use borrow.Author.Tests.{ne-eqb}
+use lib.Count.{trailingZeros}
 use lib.Dec.{eqb}
-use Rattle.meaning.specs.Holds.{hits}
+use lib.Arith.{lt-of-le-ne}
+use lib.ListN.{replicate}
+use lib.Pow.{pow-pos, shr-lt, shr-le}
+use Rattle.meaning.specs.Test.{startsWith, hasRun}
 use Rattle.history.specs.History.{newest}
-use Rattle.history.proofs.Runs.{runFrom}
+use Rattle.history.proofs.Bits.{newest-low, Begins, trailing-misses, trailing-run}
+use Rattle.history.proofs.Runs.{run-after-misses, run-long, run-short}
 
-newest-turn : (n i r : ℕ) → i < n → newest (n - i) r ≡ eqb (r % 2) 1 ∷ newest (n - (i + 1)) (r / 2)
+-- the row is to be found in what is left, r, which has no more outcomes than its size
+pub record Left (x n h r : ℕ) : Type 0 where
+  pub size : ℕ
+  pub short : size < 32
+  pub below : r < 2 ^ size
+  pub same : hasRun x (newest n h) ≡ hasRun x (newest size r)
+
+pub left-first : (x n h : ℕ) → n < 32 → Left x n h (h % 2 ^ n)
+left-first x n h l = record { size = n; short = l; below = mod-lt h (pow-pos n); same = ap (hasRun x) (sym (newest-low n h)) }
+
+ends : (d r : ℕ) → eqb (r % 2) 1 ≡ false → startsWith 1 (newest d r) ≡ false
 unfolding newest
-newest-turn n i r h = let e : n - i ≡ suc (n - (i + 1)) = omega arith in rw e
+ends zero r e = refl
+ends (suc d) r e = rw e refl
 
-newest-end : (n i r : ℕ) → i ≡ n → newest (n - i) r ≡ []
+no-hits : (x d : ℕ) → hasRun x (newest d 0) ≡ eqb x 0
 unfolding newest
-newest-end n i r h = let e : n - i ≡ zero = omega arith in rw e
+no-hits zero zero = refl
+no-hits (suc x) zero = sym (ne-eqb (suc x) 0 (λ e. omega arith))
+no-hits zero (suc d) = refl
+no-hits (suc x) (suc d) = no-hits (suc x) d
 
-hits-bit : (r : ℕ) (w : List Bool) → hits (eqb (r % 2) 1 ∷ w) ≡ r % 2 + hits w
-hits-bit r w =
-    dite (ℕ-discrete (r % 2) 1) (λ e. rw (eq-eqb (r % 2) 1 e) (omega arith)) (λ e. rw (ne-eqb (r % 2) 1 e) (omega arith))
+pub left-end : (x n h r : ℕ) → Left x n h r → r ≡ 0 → hasRun x (newest n h) ≡ eqb x 0
+left-end x n h r q e = q .same ∙ ap (λ z. hasRun x (newest (q .size) z)) e ∙ no-hits x (q .size)
 
-pub count-turn : (n i r c : ℕ) → i < n → c + hits (newest (n - i) r) ≡ c + r % 2 + hits (newest (n - (i + 1)) (r / 2))
-count-turn n i r c h = omega (arith, ap hits (newest-turn n i r h), hits-bit r (newest (n - (i + 1)) (r / 2)))
+cut-lt : (d k v : ℕ) → k ≤ d → v < 2 ^ d → v / 2 ^ k < 2 ^ (d - k)
+cut-lt d k v l b = let e : d ≡ (d - k) + k = omega arith in shr-lt (d - k) k (subst (λ y. v < 2 ^ y) e b)
 
-pub count-end : (n i r c : ℕ) → i ≡ n → c + hits (newest (n - i) r) ≡ c
-count-end n i r c h = omega (arith, ap hits (newest-end n i r h))
+module _ (x n h r : ℕ) (q : Left x n h r) (some : 0 < r) where
+  -- how many misses are newest, what comes before them, and how long the run is with which that ends
+  abbrev z : ℕ
+  z = trailingZeros 32 r
 
-pub run-found : (x m : ℕ) (w : List Bool) → m ≡ x → runFrom x m w ≡ true
-unfolding runFrom
-run-found x m [] e = eq-eqb m x e
-run-found x m (b ∷ w) e = rw (eq-eqb m x e)
+  abbrev s : ℕ
+  s = r / 2 ^ z
 
--- a hit makes the run one longer, a miss ends it
-run-bit : (r m : ℕ) → cond (eqb (r % 2) 1) (m + 1) 0 ≡ (m + 1) * (r % 2)
-run-bit r m =
-    dite (ℕ-discrete (r % 2) 1) (λ e. rw (eq-eqb (r % 2) 1 e, e) (omega arith))
-    (λ e. let z : r % 2 ≡ 0 = omega arith in rw (ne-eqb (r % 2) 1 e, z) (omega arith))
+  abbrev t : ℕ
+  t = trailingZeros 32 (4294967295 - s)
 
-pub run-turn : (n i r x m : ℕ) → i < n → (m ≡ x → ⊥) → runFrom x m (newest (n - i) r) ≡ runFrom x ((m + 1) * (r % 2)) (newest (n - (i + 1)) (r / 2))
-unfolding runFrom
-run-turn n i r x m h e =
-    ap (runFrom x m) (newest-turn n i r h) ∙ simp (ne-eqb m x e) (ap (λ z. runFrom x z (newest (n - (i + 1)) (r / 2))) (run-bit r m))
+  misses : Begins false (q .size) r z
+  misses = trailing-misses 32 (q .size) r (q .below) (omega (arith, q .short)) some
 
-pub run-end : (n i r x m : ℕ) → i ≡ n → runFrom x m (newest (n - i) r) ≡ eqb m x
-unfolding runFrom
-run-end n i r x m h = ap (runFrom x m) (newest-end n i r h)
+  s-lt : s < 2 ^ (q .size - z)
+  s-lt = cut-lt (q .size) z r (misses .within) (q .below)
 
-pub run-le : (r m : ℕ) → (m + 1) * (r % 2) ≤ m + 1
-run-le r m =
-    dite (ℕ-discrete (r % 2) 1) (λ e. rw e (omega arith)) (λ e. let z : r % 2 ≡ 0 = omega arith in rw z (omega arith))
+  run : Begins true (q .size - z) s t
+  run = trailing-run 32 (q .size - z) s s-lt (omega (arith, q .short))
+
+  pub misses-fit : z < 32
+  misses-fit = omega (arith, misses .within, q .short)
+
+  pub run-fits : t < 32
+  run-fits = omega (arith, run .within, q .short)
+
+  same : hasRun x (newest n h) ≡ hasRun x (replicate t true ++ newest (q .size - z - t) (s / 2 ^ t))
+  same = q .same ∙ ap (hasRun x) (misses .front) ∙ run-after-misses x z (newest (q .size - z) s) ∙ ap (hasRun x) (run .front)
+
+  pub left-found : x ≤ t → hasRun x (newest n h) ≡ true
+  left-found l = same ∙ run-long x t (newest (q .size - z - t) (s / 2 ^ t)) l
+
+  pub left-more : t < x → Left x n h (s / 2 ^ t)
+  left-more l =
+      let w = newest (q .size - z - t) (s / 2 ^ t) in
+      record {
+        size = q .size - z - t;
+        short = omega (arith, q .short);
+        below = cut-lt (q .size - z) t s (run .within) s-lt;
+        same = same ∙ run-short x t w l (ends (q .size - z - t) (s / 2 ^ t) (run .next));
+      }
+
+  -- what begins with a hit isn't what begins with a miss
+  pub left-less : s / 2 ^ t < r
+  left-less =
+      let other : s / 2 ^ t ≡ s → ⊥ = λ e. false≢true (sym (run .next) ∙ ap (λ y. eqb (y % 2) 1) e ∙ misses .next) in
+      omega (arith, shr-le r z, lt-of-le-ne (shr-le s t) other)

@@ -1,7 +1,7 @@
 // The history machine of a set: its state is the last outcomes in a number, the newest in the low bit.
 // A hit is always possible; whether a miss is, this crate says from the history alone, limit by limit.
 ghost use mathlib.Core.Path.{_≡_};
-ghost use Prim.Native.Nat.{_-_, _≤_, _<_};
+ghost use Prim.Native.Nat.{_-_, _%_, _^_, _≤_, _<_};
 ghost use lib.Dec.{leb};
 ghost use Rattle.meaning.specs.Longest.{longest};
 ghost use Rattle.meaning.specs.Limit.{Allowed, ruleOf};
@@ -32,44 +32,44 @@ pub fn push_index(history: usize, hit: bool, n: usize) -> usize
     push(history as u16, hit, (n - 1) as u16) as usize
 }
 
-// How many of the newest n outcomes are hits.
-fn hits_among(history: u16, n: u8) -> u8
-    ensures { λ r. ⌜ r ≡ hits (newest n history) ⌝ }
+// The newest n outcomes, and nothing above them.
+fn newest_bits(history: u16, n: u8) -> u32
+    requires { ⌜ n < 32 ⌝ } // what a shift of a u32 takes
+    ensures { λ r. ⌜ r ≡ history % 2 ^ n ⌝ }
 {
-    let mut rest = history;
-    let mut count: u8 = 0;
-    let mut i: u8 = 0;
-    while i < n {
-        count += (rest % 2) as u8;
-        rest = rest / 2;
-        i += 1;
-    }
-    count
+    history as u32 & ((1 << n) - 1)
 }
 
-// Whether x hits stand in a row among the newest n outcomes.
+// How many of the newest n outcomes are hits.
+fn hits_among(history: u16, n: u8) -> u32
+    requires { ⌜ n < 32 ⌝ }
+    ensures { λ r. ⌜ r ≡ hits (newest n history) ⌝ }
+{
+    u32::count_ones(newest_bits(history, n))
+}
+
+// Whether x hits stand in a row among the newest n outcomes: a step for each run of hits, the newest first.
 fn row_among(history: u16, n: u8, x: u8) -> bool
+    requires { ⌜ n < 32 ⌝ }
     ensures { λ r. ⌜ r ≡ hasRun x (newest n history) ⌝ }
 {
-    let mut rest = history;
-    let mut run: u8 = 0;
-    let mut i: u8 = 0;
-    while i < n {
-        if run == x {
+    let mut rest = newest_bits(history, n);
+    while rest != 0 {
+        let from_hit = rest >> u32::trailing_zeros(rest);
+        let run = u32::trailing_zeros(!from_hit);
+        if x as u32 <= run {
             return true;
         }
-        run = (run + 1) * (rest % 2) as u8;
-        rest = rest / 2;
-        i += 1;
+        rest = from_hit >> run;
     }
-    run == x
+    x == 0
 }
 
 fn enough_hits(history: u16, n: u8, x: u8) -> bool
+    requires { ⌜ n < 32 ⌝ }
     ensures { λ r. ⌜ r ≡ leb x (hits (newest n history)) ⌝ }
 {
-    let count = hits_among(history, n);
-    x <= count
+    x as u32 <= hits_among(history, n)
 }
 
 // Whether a miss can follow under one limit.

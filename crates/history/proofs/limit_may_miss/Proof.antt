@@ -2,12 +2,11 @@
 use mathlib.Core.Path.{_≡_, sym, ap, _∙_}
 use Prim.Native.Nat.{ℕ}
 use native.Mathlib.Omega.{arith}
-use borrow.Author.Needs.{needs}
 use Rattle.meaning.specs.declared.Limit.{Limit}
 use Rattle.meaning.specs.Longest.{longest}
 use Rattle.meaning.specs.Limit.{ruleFrom, ruleOf}
 use Rattle.history.specs.MayMiss.{mayMissUnder}
-use Rattle.history.proofs.Blocking.{allowed-numbers}
+use Rattle.history.proofs.Blocking.{allowed-numbers, allowed-row-miss}
 use Rattle.history.proofs.limit_may_miss.Statement.{statement}
 use Rattle.history.proofs.limit_may_miss.Tie as tie
 
@@ -19,7 +18,7 @@ sub-enough-hits : tie.Need-sub-enough-hits
 sub-enough-hits c = allowed-numbers longest (c .before .args .limit) (c .before .pre) (omega arith) .0
 
 enough-hits-requires : tie.Need-enough-hits-requires
-enough-hits-requires c κs = search needs
+enough-hits-requires c κs = omega (arith, allowed-numbers longest (c .before .args .limit) (c .before .pre) (omega arith))
 
 returns : tie.Need-returns
 returns c =
@@ -27,10 +26,10 @@ returns c =
     c .enough-hits .ensures ∙ of-kind (s .args .limit) (s .args .history) 0 (c .before .if1 .taken)
 
 sub-row-among : tie.Need-sub-row-among
-sub-row-among c = allowed-numbers longest (c .before .before .args .limit) (c .before .before .pre) (omega arith) .1
+sub-row-among c = allowed-numbers longest (c .before .before .args .limit) (c .before .before .pre) (omega arith) .2
 
 row-among-requires : tie.Need-row-among-requires
-row-among-requires c κs = search needs
+row-among-requires c κs = omega (arith, allowed-numbers longest (c .before .before .args .limit) (c .before .before .pre) (omega arith))
 
 returns-2 : tie.Need-returns-2
 returns-2 c =
@@ -41,10 +40,10 @@ sub-enough-hits-2 : tie.Need-sub-enough-hits-2
 sub-enough-hits-2 c = allowed-numbers longest (c .before .before .before .args .limit) (c .before .before .before .pre) (omega arith) .0
 
 sub-enough-hits-3 : tie.Need-sub-enough-hits-3
-sub-enough-hits-3 c = allowed-numbers longest (c .before .before .before .args .limit) (c .before .before .before .pre) (omega arith) .1
+sub-enough-hits-3 c = allowed-numbers longest (c .before .before .before .args .limit) (c .before .before .before .pre) (omega arith) .2
 
 enough-hits-requires-2 : tie.Need-enough-hits-requires-2
-enough-hits-requires-2 c κs = search needs
+enough-hits-requires-2 c κs = omega (arith, allowed-numbers longest (c .before .before .before .args .limit) (c .before .before .before .pre) (omega arith))
 
 returns-3 : tie.Need-returns-3
 returns-3 c =
@@ -52,7 +51,8 @@ returns-3 c =
     c .enough-hits2 .ensures ∙ of-kind (s .args .limit) (s .args .history) 2 (c .before .if3 .taken)
 
 enough-hits-requires-3 : tie.Need-enough-hits-requires-3
-enough-hits-requires-3 c κs = search needs
+enough-hits-requires-3 c κs =
+    omega (arith, allowed-row-miss longest (c .before .before .before .args .limit) (c .before .before .before .pre) (omega arith))
 
 returns-4 : tie.Need-returns-4
 returns-4 c =

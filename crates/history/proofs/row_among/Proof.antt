@@ -1,63 +1,59 @@
--- `history::row_among`: the run under way and the outcomes that are left have the row exactly when all have it. Assumes nothing.
-use mathlib.Core.Path.{_≡_, sym, _∙_}
-use Prim.Native.Nat.{_≤_, _-_}
-use native.Mathlib.Nat.{sub-zero}
+-- `history::row_among`: the row is the run just looked at, or is to be found in what is left. Assumes nothing.
+use mathlib.Core.Path.{sym, subst}
 use native.Mathlib.Omega.{arith}
 use borrow.Author.Needs.{needs}
-use Rattle.meaning.specs.Test.{hasRun}
-use Rattle.history.specs.History.{newest}
-use Rattle.history.proofs.Runs.{runFrom, run-from-test}
-use Rattle.history.proofs.Turns.{run-found, run-turn, run-end, run-le}
+use Rattle.history.proofs.Turns.{Left, left-first, left-end, left-found, left-more, left-less, misses-fit, run-fits}
 use Rattle.history.proofs.row_among.Statement.{statement}
 use Rattle.history.proofs.row_among.Tie as tie
 
 abbrev Inv-loop : tie.InvT-loop
-Inv-loop history n x rest₀ run₀ i₀ rest run i =
-    (i ≤ n) × (run ≤ i) × (hasRun x (newest n history) ≡ runFrom x run (newest (n - i) rest))
+Inv-loop history n x rest₀ rest = Left x n history rest
 
 abbrev μ-loop : tie.MeasureT-loop
-μ-loop history n x rest₀ run₀ i₀ rest run i = n - i
+μ-loop history n x rest₀ rest = rest
+
+newest-bits-requires : tie.Need-newest-bits-requires Inv-loop μ-loop
+newest-bits-requires c κs = search needs
 
 loop-holds : tie.Need-loop-holds Inv-loop μ-loop
-loop-holds c = (omega arith, omega arith, rw sub-zero (run-from-test _ _))
+loop-holds c =
+    let a = c .before .args in
+    subst (λ r. Left (a .x) (a .n) (a .history) r) (sym (c .newest-bits .ensures)) (left-first (a .x) (a .n) (a .history) (c .before .pre))
+
+shr-from-hit : tie.Need-shr-from-hit Inv-loop μ-loop
+shr-from-hit c =
+    let a = c .before .before .before .args in
+    misses-fit (a .x) (a .n) (a .history) (c .before .loop .rest) (c .before .loop .inv) (omega arith)
 
 returns : tie.Need-returns Inv-loop μ-loop
 returns c =
-    let a = c .before .before .before .args in
+    let a = c .before .before .before .before .args in
     let l = c .before .before .loop in
-    sym (l .inv .2 ∙ run-found (a .x) (l .run) (newest (a .n - l .i) (l .rest)) (c .if1 .taken))
+    sym (left-found (a .x) (a .n) (a .history) (l .rest) (l .inv) (omega arith) (omega arith))
 
-add-run : tie.Need-add-run Inv-loop μ-loop
-add-run c = search needs
-
-cast-run : tie.Need-cast-run Inv-loop μ-loop
-cast-run c = search needs
-
-mul-run : tie.Need-mul-run Inv-loop μ-loop
-mul-run c =
+shr-rest : tie.Need-shr-rest Inv-loop μ-loop
+shr-rest c =
+    let a = c .before .before .before .before .args in
     let l = c .before .before .loop in
-    omega (arith, run-le (l .rest) (l .run))
-
-add-i : tie.Need-add-i Inv-loop μ-loop
-add-i c = search needs
+    run-fits (a .x) (a .n) (a .history) (l .rest) (l .inv) (omega arith)
 
 loop-less : tie.Need-loop-less Inv-loop μ-loop
-loop-less c = search needs
+loop-less c =
+    let a = c .before .before .before .before .args in
+    let l = c .before .before .loop in
+    left-less (a .x) (a .n) (a .history) (l .rest) (l .inv) (omega arith)
 
 loop-again : tie.Need-loop-again Inv-loop μ-loop
 loop-again c =
-    let a = c .before .before .before .args in
-    let l = c .before .before .loop in (
-      omega arith,
-      omega (arith, run-le (l .rest) (l .run)),
-      l .inv .2 ∙ run-turn (a .n) (l .i) (l .rest) (a .x) (l .run) (c .before .loop-test .taken) (c .if1 .left),
-    )
+    let a = c .before .before .before .before .args in
+    let l = c .before .before .loop in
+    left-more (a .x) (a .n) (a .history) (l .rest) (l .inv) (omega arith) (omega arith)
 
 returns-2 : tie.Need-returns-2 Inv-loop μ-loop
 returns-2 c =
-    let a = c .before .before .args in
+    let a = c .before .before .before .args in
     let l = c .before .loop in
-    sym (l .inv .2 ∙ run-end (a .n) (l .i) (l .rest) (a .x) (l .run) (omega arith))
+    sym (left-end (a .x) (a .n) (a .history) (l .rest) (l .inv) (omega arith))
 
 pub row-among-spec : {M : Type 1} → statement M
 row-among-spec =
@@ -65,12 +61,11 @@ row-among-spec =
     (tie.spec
     Inv-loop
     μ-loop
+    newest-bits-requires
     loop-holds
+    shr-from-hit
     returns
-    add-run
-    cast-run
-    mul-run
-    add-i
+    shr-rest
     loop-less
     loop-again
     returns-2)
