@@ -1,4 +1,4 @@
--- Hits and runs of hits don't depend on the direction in which outcomes are read, and the longest run at the start has the row or has no part in it. Assumes nothing.
+-- Hits and runs of hits don't depend on the direction in which outcomes are read, and the run at the start has the row or has no part in it. Assumes nothing.
 use mathlib.Core.Path.{_≡_, refl, sym, ap, _∙_, subst}
 use mathlib.Core.Bool.{Bool, true, false, false≢true}
 use mathlib.Core.List.{List, [], _∷_, _++_, reverse, reverse-cons, reverse-append, reverse-reverse, append-assoc}
@@ -67,3 +67,37 @@ pub run-short : (x n : ℕ) (w : List Bool) → n < x → startsWith 1 w ≡ fal
 run-short x zero w h e = refl
 run-short zero (suc n) w h e = absurd (omega arith)
 run-short (suc x) (suc n) w h e = rw (starts-short x n w (omega arith) e) (run-short (suc x) n w (omega arith) e)
+
+-- one run more, where a hit doesn't come after a hit
+abbrev pub rise : (before o : Bool) → ℕ → ℕ
+rise false true n = suc n
+rise true true n = n
+rise true false n = n
+rise false false n = n
+
+-- how many runs of hits begin in w, told whether a hit stands before it
+unfoldable pub runs : Bool → List Bool → ℕ
+runs before [] = zero
+runs before (o ∷ w) = rise before o (runs o w)
+
+pub runs-after-misses : (n : ℕ) (w : List Bool) → runs false (replicate n false ++ w) ≡ runs false w
+unfolding runs
+runs-after-misses zero w = refl
+runs-after-misses (suc n) w = runs-after-misses n w
+
+runs-same : (w : List Bool) → startsWith 1 w ≡ false → runs true w ≡ runs false w
+unfolding runs
+runs-same [] e = refl
+runs-same (true ∷ w) e = absurd (false≢true (sym e))
+runs-same (false ∷ w) e = refl
+
+runs-within : (n : ℕ) (w : List Bool) → startsWith 1 w ≡ false → runs true (replicate n true ++ w) ≡ runs false w
+unfolding runs
+runs-within zero w e = runs-same w e
+runs-within (suc n) w e = runs-within n w e
+
+-- the run at the start is one of them
+pub runs-first : (n : ℕ) (w : List Bool) → 0 < n → startsWith 1 w ≡ false → runs false (replicate n true ++ w) ≡ suc (runs false w)
+unfolding runs
+runs-first zero w h e = absurd (omega arith)
+runs-first (suc n) w h e = ap suc (runs-within n w e)

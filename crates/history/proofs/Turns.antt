@@ -1,20 +1,19 @@
--- What a turn of `row_among` leaves: the run that it looked at is the row, or the outcomes after it have the row exactly when all have it. Assumes nothing.
+-- What a turn of `row_among` leaves: the run that it looked at is the row, or what is left has the row exactly when all outcomes have it, and one run less. Assumes nothing.
 use mathlib.Core.Path.{_≡_, refl, sym, ap, _∙_, subst}
-use mathlib.Core.Bool.{true, false, false≢true}
+use mathlib.Core.Bool.{Bool, true, false, false≢true}
 use mathlib.Core.List.{_++_}
 use Prim.Native.Nat.{ℕ, zero, suc, _+_, _-_, _/_, _%_, _^_, _≤_, _<_}
-use native.Mathlib.Nat.{mod-lt}
+use native.Mathlib.Nat.{mod-lt, div-one, zero-add, suc-add, pow-suc}
 use native.Mathlib.Omega.{arith}
 use borrow.Author.Tests.{ne-eqb}
 use lib.Count.{trailingZeros}
 use lib.Dec.{eqb}
-use lib.Arith.{lt-of-le-ne}
 use lib.ListN.{replicate}
-use lib.Pow.{pow-pos, shr-lt, shr-le}
+use lib.Pow.{pow-pos, shr-lt}
 use Rattle.meaning.specs.Test.{startsWith, hasRun}
 use Rattle.history.specs.History.{newest}
 use Rattle.history.proofs.Bits.{newest-low, Begins, trailing-misses, trailing-run}
-use Rattle.history.proofs.Runs.{run-after-misses, run-long, run-short}
+use Rattle.history.proofs.Runs.{run-after-misses, run-long, run-short, rise, runs, runs-after-misses, runs-first}
 
 -- the row is to be found in what is left, r, which has no more outcomes than its size
 pub record Left (x n h r : ℕ) : Type 0 where
@@ -44,8 +43,31 @@ left-end x n h r q e = q .same ∙ ap (λ z. hasRun x (newest (q .size) z)) e �
 cut-lt : (d k v : ℕ) → k ≤ d → v < 2 ^ d → v / 2 ^ k < 2 ^ (d - k)
 cut-lt d k v l b = let e : d ≡ (d - k) + k = omega arith in shr-lt (d - k) k (subst (λ y. v < 2 ^ y) e b)
 
+-- how many runs of hits a word has
+abbrev pub runsIn : ℕ → ℕ
+runsIn r = runs false (newest 32 r)
+
+-- misses above its highest bit have none
+runs-none : (b : Bool) (e : ℕ) → runs b (newest e 0) ≡ 0
+unfolding newest runs
+runs-none b zero = refl
+runs-none true (suc e) = runs-none false e
+runs-none false (suc e) = runs-none false e
+
+runs-above : (b : Bool) (d e r : ℕ) → r < 2 ^ d → runs b (newest (d + e) r) ≡ runs b (newest d r)
+unfolding newest runs
+runs-above b zero e r h =
+    let none : r ≡ 0 = omega arith in
+    ap (λ y. runs b (newest y r)) (zero-add e) ∙ ap (λ y. runs b (newest e y)) none ∙ runs-none b e
+runs-above b (suc d) e r h =
+    let o = eqb (r % 2) 1 in
+    ap (λ y. runs b (newest y r)) (suc-add d e) ∙ ap (rise b o) (runs-above o d e (r / 2) (omega (arith, pow-suc 2 d)))
+
+runs-wide : (d r : ℕ) → d ≤ 32 → r < 2 ^ d → runsIn r ≡ runs false (newest d r)
+runs-wide d r l h = let e : 32 ≡ d + (32 - d) = omega arith in ap (λ y. runs false (newest y r)) e ∙ runs-above false d (32 - d) r h
+
 module _ (x n h r : ℕ) (q : Left x n h r) (some : 0 < r) where
-  -- how many misses are newest, what comes before them, and how long the run is with which that ends
+  -- the newest misses, the outcomes before them, and the run of hits that is newest there
   abbrev z : ℕ
   z = trailingZeros 32 r
 
@@ -86,8 +108,20 @@ module _ (x n h r : ℕ) (q : Left x n h r) (some : 0 < r) where
         same = same ∙ run-short x t w l (ends (q .size - z - t) (s / 2 ^ t) (run .next));
       }
 
-  -- what begins with a hit isn't what begins with a miss
-  pub left-less : s / 2 ^ t < r
+  -- what begins with a hit begins with a run of one at least
+  run-some : (y : ℕ) → t ≡ y → 0 < y
+  run-some zero e =
+      let same : s / 2 ^ t ≡ s = ap (λ y. s / 2 ^ y) e ∙ div-one s in
+      absurd (false≢true (sym (run .next) ∙ ap (λ y. eqb (y % 2) 1) same ∙ misses .next))
+  run-some (suc y) e = omega arith
+
+  -- the run that was looked at is one less to look at
+  pub left-less : runsIn (s / 2 ^ t) < runsIn r
   left-less =
-      let other : s / 2 ^ t ≡ s → ⊥ = λ e. false≢true (sym (run .next) ∙ ap (λ y. eqb (y % 2) 1) e ∙ misses .next) in
-      omega (arith, shr-le r z, lt-of-le-ne (shr-le s t) other)
+      let d = q .size in
+      let w = newest (d - z - t) (s / 2 ^ t) in
+      let e : runsIn r ≡ suc (runs false w) =
+      runs-wide d r (omega (arith, q .short)) (q .below)
+      ∙ ap (runs false) (misses .front) ∙ runs-after-misses z (newest (d - z) s)
+      ∙ ap (runs false) (run .front) ∙ runs-first t w (run-some t refl) (ends (d - z - t) (s / 2 ^ t) (run .next)) in
+      omega (arith, runs-wide (d - z - t) (s / 2 ^ t) (omega (arith, q .short)) (cut-lt (d - z) t s (run .within) s-lt))

@@ -1,8 +1,8 @@
--- `history::row_among`: the row is the run just looked at, or is to be found in what is left. Assumes nothing.
+-- `history::row_among`: the row is the run just looked at, or is to be found in what is left. Each turn leaves one run of hits less, so that there are no more turns than runs. Assumes nothing.
 use mathlib.Core.Path.{sym, subst}
 use native.Mathlib.Omega.{arith}
 use borrow.Author.Needs.{needs}
-use Rattle.history.proofs.Turns.{Left, left-first, left-end, left-found, left-more, left-less, misses-fit, run-fits}
+use Rattle.history.proofs.Turns.{Left, runsIn, left-first, left-end, left-found, left-more, left-less, misses-fit, run-fits}
 use Rattle.history.proofs.row_among.Statement.{statement}
 use Rattle.history.proofs.row_among.Tie as tie
 
@@ -10,7 +10,7 @@ abbrev Inv-loop : tie.InvT-loop
 Inv-loop history n x rest₀ rest = Left x n history rest
 
 abbrev μ-loop : tie.MeasureT-loop
-μ-loop history n x rest₀ rest = rest
+μ-loop history n x rest₀ rest = runsIn rest
 
 newest-bits-requires : tie.Need-newest-bits-requires Inv-loop μ-loop
 newest-bits-requires c κs = search needs
