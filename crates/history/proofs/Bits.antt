@@ -39,7 +39,7 @@ ones-hits (suc n) h =
     let e = low-end n h in
     omega (arith, ones-step (h % 2 ^ suc n), e .0, ap ones (e .1), ones-hits n (h / 2), hits-bit h (newest n (h / 2)))
 
--- the newest d outcomes of r begin with z outcomes b, and the next is another or there is none
+-- the newest d outcomes of r begin with z outcomes b, and the bit above them is another: the next outcome, or the 0 above all of them
 pub record Begins (b : Bool) (d r z : ℕ) : Type 0 where
   pub within : z ≤ d
   pub front : newest d r ≡ replicate z b ++ newest (d - z) (r / 2 ^ z)

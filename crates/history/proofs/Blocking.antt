@@ -14,7 +14,7 @@ use Rattle.meaning.specs.Sets.{ruleAt}
 use Rattle.meaning.proofs.Decide.{T-true, T-of, every-at, every-from, not-T-false}
 use Rattle.history.specs.MayMiss.{mayMissUnder, mayMiss, Blocks}
 
--- what the code that computes `mayMissUnder` asks of a limit
+-- what the code that computes `mayMissUnder` asks of a limit: of the first three kinds, and of the fourth
 pub allowed-numbers : (w : ℕ) (l : Limit) → Allowed w l → l .kind ≤ 2 → (1 ≤ l .k) × (l .k ≤ w) × (l .x ≤ l .k)
 allowed-numbers w l a = go (l .kind) (a .rule-allowed)
   where

@@ -49,7 +49,7 @@ starts-long zero n w h = refl
 starts-long (suc x) zero w h = absurd (omega arith)
 starts-long (suc x) (suc n) w h = starts-long x n w (omega arith)
 
--- a run at the start is long enough
+-- a run at the start that is long enough has the row
 pub run-long : (x n : ℕ) (w : List Bool) → x ≤ n → hasRun x (replicate n true ++ w) ≡ true
 run-long zero n w h = run-zero (replicate n true ++ w)
 run-long (suc x) zero w h = absurd (omega arith)
@@ -62,7 +62,7 @@ starts-short (suc x) zero (true ∷ w) h e = absurd (false≢true (sym e))
 starts-short (suc x) zero (false ∷ w) h e = refl
 starts-short (suc x) (suc n) w h e = starts-short x n w (omega arith) e
 
--- or it is too short, and the next outcome ends it
+-- one that is too short, and that a miss or the end follows, has no part in it
 pub run-short : (x n : ℕ) (w : List Bool) → n < x → startsWith 1 w ≡ false → hasRun x (replicate n true ++ w) ≡ hasRun x w
 run-short x zero w h e = refl
 run-short zero (suc n) w h e = absurd (omega arith)

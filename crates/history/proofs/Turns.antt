@@ -15,7 +15,7 @@ use Rattle.history.specs.History.{newest}
 use Rattle.history.proofs.Bits.{newest-low, Begins, trailing-misses, trailing-run}
 use Rattle.history.proofs.Runs.{run-after-misses, run-long, run-short, rise, runs, runs-after-misses, runs-first}
 
--- the row is to be found in what is left, r, which has no more outcomes than its size
+-- the row is to be found in what is left, the at most `size` outcomes of r
 pub record Left (x n h r : ℕ) : Type 0 where
   pub size : ℕ
   pub short : size < 32
@@ -47,13 +47,13 @@ cut-lt d k v l b = let e : d ≡ (d - k) + k = omega arith in shr-lt (d - k) k (
 abbrev pub runsIn : ℕ → ℕ
 runsIn r = runs false (newest 32 r)
 
--- misses above its highest bit have none
 runs-none : (b : Bool) (e : ℕ) → runs b (newest e 0) ≡ 0
 unfolding newest runs
 runs-none b zero = refl
 runs-none true (suc e) = runs-none false e
 runs-none false (suc e) = runs-none false e
 
+-- misses above its highest bit have none
 runs-above : (b : Bool) (d e r : ℕ) → r < 2 ^ d → runs b (newest (d + e) r) ≡ runs b (newest d r)
 unfolding newest runs
 runs-above b zero e r h =
@@ -92,11 +92,11 @@ module _ (x n h r : ℕ) (q : Left x n h r) (some : 0 < r) where
   pub run-fits : t < 32
   run-fits = omega (arith, run .within, q .short)
 
-  same : hasRun x (newest n h) ≡ hasRun x (replicate t true ++ newest (q .size - z - t) (s / 2 ^ t))
-  same = q .same ∙ ap (hasRun x) (misses .front) ∙ run-after-misses x z (newest (q .size - z) s) ∙ ap (hasRun x) (run .front)
+  run-in-front : hasRun x (newest n h) ≡ hasRun x (replicate t true ++ newest (q .size - z - t) (s / 2 ^ t))
+  run-in-front = q .same ∙ ap (hasRun x) (misses .front) ∙ run-after-misses x z (newest (q .size - z) s) ∙ ap (hasRun x) (run .front)
 
   pub left-found : x ≤ t → hasRun x (newest n h) ≡ true
-  left-found l = same ∙ run-long x t (newest (q .size - z - t) (s / 2 ^ t)) l
+  left-found l = run-in-front ∙ run-long x t (newest (q .size - z - t) (s / 2 ^ t)) l
 
   pub left-more : t < x → Left x n h (s / 2 ^ t)
   left-more l =
@@ -105,14 +105,14 @@ module _ (x n h r : ℕ) (q : Left x n h r) (some : 0 < r) where
         size = q .size - z - t;
         short = omega (arith, q .short);
         below = cut-lt (q .size - z) t s (run .within) s-lt;
-        same = same ∙ run-short x t w l (ends (q .size - z - t) (s / 2 ^ t) (run .next));
+        same = run-in-front ∙ run-short x t w l (ends (q .size - z - t) (s / 2 ^ t) (run .next));
       }
 
   -- what begins with a hit begins with a run of one at least
   run-some : (y : ℕ) → t ≡ y → 0 < y
   run-some zero e =
-      let same : s / 2 ^ t ≡ s = ap (λ y. s / 2 ^ y) e ∙ div-one s in
-      absurd (false≢true (sym (run .next) ∙ ap (λ y. eqb (y % 2) 1) same ∙ misses .next))
+      let whole : s / 2 ^ t ≡ s = ap (λ y. s / 2 ^ y) e ∙ div-one s in
+      absurd (false≢true (sym (run .next) ∙ ap (λ y. eqb (y % 2) 1) whole ∙ misses .next))
   run-some (suc y) e = omega arith
 
   -- the run that was looked at is one less to look at

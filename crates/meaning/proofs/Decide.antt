@@ -22,11 +22,11 @@ pub and-T : (a b : Bool) → T (a && b) ↔ (T a × T b)
 and-T true b = (λ t. (tt, t), λ t. t .1)
 and-T false b = (λ t. absurd t, λ t. t .0)
 
-pub or-left : (a b : Bool) → T a → T (a || b)
+or-left : (a b : Bool) → T a → T (a || b)
 or-left true b t = tt
 or-left false b t = absurd t
 
-pub or-right : (a b : Bool) → T b → T (a || b)
+or-right : (a b : Bool) → T b → T (a || b)
 or-right true b t = tt
 or-right false b t = t
 
@@ -40,13 +40,6 @@ T-of b e = subst (λ z. T z) (sym e) tt
 pub not-T-false : (b : Bool) → (T b → ⊥) → b ≡ false
 not-T-false true f = absurd (f tt)
 not-T-false false f = refl
-
--- two tests that pass together are one
-pub same-test : (a b : Bool) → (T a → T b) → (T b → T a) → a ≡ b
-same-test true true f g = refl
-same-test true false f g = absurd (f tt)
-same-test false true f g = absurd (g tt)
-same-test false false f g = refl
 
 pub T-true : (b : Bool) → T b → b ≡ true
 T-true true t = refl
