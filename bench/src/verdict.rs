@@ -28,6 +28,10 @@ pub fn measure(figures: &mut Figures) {
     figure(figures, "verdict, mixed", "all hits", &mixed, &vec![1; OUTCOMES]);
     figure(figures, "verdict, mixed", "random, few misses: 1 in 20", &mixed, &kept(&mixed, OUTCOMES, 20));
     figure(figures, "verdict, mixed", "random, a miss 1 in 2 times that it may be", &mixed, &kept(&mixed, OUTCOMES, 2));
+    for limits in eights() {
+        let input = format!("{}, a miss wherever it may be", words(&limits));
+        figure(figures, "verdict", &input, &limits, &kept(&limits, OUTCOMES, 1));
+    }
     let Case { limits, rarity, .. } = slowest_case();
     figures.note(format!("slowest of a search for the verdict: {}", words(&limits)));
     let input = match rarity {
@@ -40,6 +44,13 @@ pub fn measure(figures: &mut Figures) {
 /// Eight limits of all kinds, of window 12.
 pub fn mixed() -> Vec<Limit> {
     [(0, 3, 12), (1, 2, 12), (2, 8, 12), (3, 11, 0)].map(|(kind, x, k)| Limit { kind, x, k }).repeat(2)
+}
+
+/// Eight limits that are slow to look at: hits counted, runs of one hit, runs of two.
+fn eights() -> [Vec<Limit>; 3] {
+    let [any_hit, row_of_1, row_of_2, row_miss] =
+        [(0, 1, 12), (1, 1, 12), (1, 2, 12), (3, 11, 0)].map(|(kind, x, k)| Limit { kind, x, k });
+    [vec![any_hit; 8], [vec![row_miss; 2], vec![row_of_1; 6]].concat(), vec![row_of_2; 8]]
 }
 
 /// Each outcome is by chance one in `rarity` a miss, unless the set then wouldn't keep the pattern.
