@@ -1,5 +1,4 @@
 pub mod Stores
-pub mod Reaching
 pub mod Holding
 pub mod Answers
 pub mod Numbers

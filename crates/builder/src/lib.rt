@@ -3,16 +3,14 @@
 mod write;
 
 ghost use mathlib.Core.Path.{_≡_};
-ghost use Prim.Native.Nat.{_+_, _-_, _≤_};
+ghost use Prim.Native.Nat.{_-_, _≤_};
 ghost use lib.ListN.{length};
 ghost use Rattle.machines.specs.Machine.{Machine};
 ghost use Rattle.meaning.specs.Longest.{longest};
-ghost use Rattle.meaning.specs.Limit.{Allowed, ruleOf, width};
 ghost use Rattle.meaning.specs.Sets.{SetAllowed};
 ghost use Rattle.classes.specs.Area.{areaSize};
 ghost use Rattle.builder.specs.Build.{Cleared, BuiltAs};
 ghost use Rattle.builder.specs.Steps.{Reaches, Histories, Held, BuildsTable};
-use meaning::Limit;
 use meaning::LimitSet;
 
 // Entries of the work area that the builder uses.
@@ -21,18 +19,6 @@ const AREA: usize = 4 * classes::REGION;
 pub enum BuildAnswer {
     Built(usize),
     Refused { number: u8, at: usize },
-}
-
-// How many outcomes before a job lie in one window with it.
-fn reach(limit: Limit) -> usize
-    requires { ⌜ Allowed longest limit ⌝ }
-    ensures { λ r. ⌜ r + 1 ≡ width (ruleOf limit) ⌝ }
-{
-    let kind = limit.kind;
-    if kind == 3 {
-        return limit.x as usize;
-    }
-    (limit.k - 1) as usize
 }
 
 // The length of histories that the set's own longest window asks for.
@@ -45,7 +31,7 @@ fn history_length(set: LimitSet) -> usize
     let mut i = 0;
     while i < count {
         let limit = set.limits[i];
-        let asked = reach(limit);
+        let asked = history::reach(limit);
         if length < asked {
             length = asked;
         }

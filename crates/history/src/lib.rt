@@ -1,10 +1,10 @@
 // The history machine of a set: its state is the last outcomes in a number, the newest in the low bit.
 // A hit is always possible; whether a miss is, this crate says from the history alone, limit by limit.
 ghost use mathlib.Core.Path.{_≡_};
-ghost use Prim.Native.Nat.{_-_, _%_, _^_, _≤_, _<_};
+ghost use Prim.Native.Nat.{_+_, _-_, _%_, _^_, _≤_, _<_};
 ghost use lib.Dec.{leb};
 ghost use Rattle.meaning.specs.Longest.{longest};
-ghost use Rattle.meaning.specs.Limit.{Allowed, ruleOf};
+ghost use Rattle.meaning.specs.Limit.{Allowed, ruleOf, width};
 ghost use Rattle.meaning.specs.Holds.{hits};
 ghost use Rattle.meaning.specs.Sets.{SetAllowed};
 ghost use Rattle.meaning.specs.Test.{hasRun};
@@ -90,6 +90,18 @@ pub fn limit_may_miss(limit: Limit, history: u16) -> bool
         return enough_hits(history, k - 1, k - x);
     }
     enough_hits(history, x, 1)
+}
+
+// How many outcomes before a job lie in one window with it.
+pub fn reach(limit: Limit) -> usize
+    requires { ⌜ Allowed longest limit ⌝ }
+    ensures { λ r. ⌜ r + 1 ≡ width (ruleOf limit) ⌝ }
+{
+    let kind = limit.kind;
+    if kind == 3 {
+        return limit.x as usize;
+    }
+    (limit.k - 1) as usize
 }
 
 // The lowest-numbered limit under which a miss can't follow, or the count of limits where there is none.

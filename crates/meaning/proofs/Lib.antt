@@ -6,5 +6,6 @@ pub mod Decide
 pub mod SetLaws
 pub mod Search
 pub mod Unique
+pub mod Widths
 pub mod Witness
 pub mod WorkedRows

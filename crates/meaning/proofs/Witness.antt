@@ -7,7 +7,7 @@ use native.Mathlib.Omega.{arith}
 use lib.ListN.{length}
 use lib.IntN.{ℤ, pos}
 use Rattle.meaning.specs.declared.LimitSet.{LimitSet}
-use Rattle.meaning.specs.Limit.{Rule, AnyHit, RowHit, AnyMiss, RowMiss, width, RuleAllowed}
+use Rattle.meaning.specs.Limit.{Rule, width}
 use Rattle.meaning.specs.Window.{around, window}
 use Rattle.meaning.specs.Holds.{Holds}
 use Rattle.meaning.specs.Kept.{Kept}
@@ -17,12 +17,7 @@ use Rattle.patterns.proofs.Codes.{no-later-length}
 use Rattle.meaning.proofs.TwoKinds.{length-window}
 use Rattle.meaning.proofs.TwoWay.{kept-occurs, window-drop}
 use Rattle.meaning.proofs.Search.{breaking-limit, breaking-window}
-
-pub width-allowed : (w : ℕ) (l : Rule) → RuleAllowed w l → (1 ≤ width l) × (width l ≤ w)
-width-allowed w (AnyHit x k) (a, b, c) = (a, b)
-width-allowed w (RowHit x k) (a, b, c) = (a, b)
-width-allowed w (AnyMiss x k) (a, b, c) = (a, b)
-width-allowed w (RowMiss x) a = (omega arith, a)
+use Rattle.meaning.proofs.Widths.{width-allowed}
 
 -- a window of a pattern with hits around it, taken as a pattern, has itself as a window
 pub window-itself : (v : List Bool) → window (around v) (pos zero) (length v) ≡ v

@@ -7,8 +7,7 @@ use borrow.Author.Needs.{needs}
 use Rattle.meaning.specs.Longest.{longest}
 use Rattle.meaning.specs.Limit.{width}
 use Rattle.meaning.specs.Sets.{ruleAt}
-use Rattle.meaning.proofs.Witness.{width-allowed}
-use Rattle.builder.proofs.Reaching.{set-narrower}
+use Rattle.meaning.proofs.Widths.{width-allowed, set-narrower}
 use Rattle.builder.proofs.history_length.Statement.{statement}
 use Rattle.builder.proofs.history_length.Tie as tie
 

@@ -1,8 +1,15 @@
--- Histories one shorter than the widest window are long enough: each limit stays allowed with its own window for the longest. Assumes nothing.
+-- The window of an allowed limit: it has a job, and no more of them than the longest window; and the limit stays allowed where the longest is no wider than a set's own. Assumes nothing.
 use Prim.Native.Nat.{ℕ, _≤_, _<_}
+use native.Mathlib.Omega.{arith}
 use Rattle.meaning.specs.declared.LimitSet.{LimitSet}
 use Rattle.meaning.specs.Limit.{Rule, AnyHit, RowHit, AnyMiss, RowMiss, RuleAllowed, ruleOf, width}
 use Rattle.meaning.specs.Sets.{SetAllowed, limitAt}
+
+pub width-allowed : (w : ℕ) (l : Rule) → RuleAllowed w l → (1 ≤ width l) × (width l ≤ w)
+width-allowed w (AnyHit x k) (a, b, c) = (a, b)
+width-allowed w (RowHit x k) (a, b, c) = (a, b)
+width-allowed w (AnyMiss x k) (a, b, c) = (a, b)
+width-allowed w (RowMiss x) a = (omega arith, a)
 
 narrower : (w v : ℕ) (l : Rule) → RuleAllowed w l → width l ≤ v → RuleAllowed v l
 narrower w v (AnyHit x k) (a, b, c) h = (a, h, c)

@@ -1,4 +1,4 @@
--- `builder::reach`: one less than the window, by the kind. Assumes nothing.
+-- `history::reach`: one less than the window, by the kind. Assumes nothing.
 use mathlib.Core.Path.{_≡_, sym, ap, _∙_}
 use Prim.Native.Nat.{ℕ, zero, suc, _≤_}
 use native.Mathlib.Numerals.{add-one}
@@ -6,9 +6,9 @@ use native.Mathlib.Omega.{arith}
 use borrow.Author.Needs.{needs}
 use Rattle.meaning.specs.Longest.{longest}
 use Rattle.meaning.specs.Limit.{ruleFrom, width}
 use Rattle.history.proofs.Blocking.{allowed-numbers}
-use Rattle.builder.proofs.reach.Statement.{statement}
-use Rattle.builder.proofs.reach.Tie as tie
+use Rattle.history.proofs.reach.Statement.{statement}
+use Rattle.history.proofs.reach.Tie as tie
 
 -- the window of a kind below 3 is k
 k-wide : (kind x k : ℕ) → kind ≤ 2 → width (ruleFrom kind x k) ≡ k
