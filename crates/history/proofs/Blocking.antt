@@ -24,7 +24,7 @@ allowed-numbers w l a = go (l .kind) (a .rule-allowed)
     go (suc (suc zero)) a h = a
     go (suc (suc (suc kind))) a h = absurd (omega arith)
 
-pub allowed-row-miss : (w : ℕ) (l : Limit) → Allowed w l → l .kind ≡ 3 → l .x < w
+pub allowed-row-miss : (w : ℕ) (l : Limit) → Allowed w l → l .kind ≡ 3 → (1 ≤ l .x) × (l .x ≤ w)
 allowed-row-miss w l a e = subst (λ kind. RuleAllowed w (ruleFrom kind (l .x) (l .k))) e (a .rule-allowed)
 
 module _ (s : LimitSet) (h : ℕ) where

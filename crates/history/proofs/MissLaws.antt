@@ -66,10 +66,8 @@ module _ (m : ℕ) (p : List Bool) where
   decides-under (RowHit x k) (a, b, c) = decides-row x k a b c
   decides-under (AnyMiss x k) (a, b, c) =
       same-decides (mayMissUnder (AnyMiss x k) (historyOf m p)) (AnyMiss x k) (AnyHit (k - x) k) p (any-miss-kept x k c) (decides-any (k - x) k a b)
-  decides-under (RowMiss x) a =
-      let e : suc x - 1 ≡ x = omega arith in
-      same-decides (mayMissUnder (RowMiss x) (historyOf m p)) (RowMiss x) (AnyHit 1 (suc x)) p (row-miss-kept x)
-      (subst (λ z. Decides (leb 1 (hits (newest z (historyOf m p)))) (AnyHit 1 (suc x)) p) e (decides-any 1 (suc x) (omega arith) a))
+  decides-under (RowMiss x) (a, b) =
+      same-decides (mayMissUnder (RowMiss x) (historyOf m p)) (RowMiss x) (AnyHit 1 x) p (row-miss-kept x) (decides-any 1 x a b)
 
   pub may-miss-kept : (s : LimitSet) → SetAllowed (suc m) s → KeptBy s p → T (mayMiss s (historyOf m p)) ↔ KeptBy s (p ++ false ∷ [])
   unfolding mayMiss

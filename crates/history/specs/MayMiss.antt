@@ -16,7 +16,7 @@ abbrev pub mayMissUnder : Rule → ℕ → Bool
 mayMissUnder (AnyHit x k) h = leb x (hits (newest (k - 1) h))
 mayMissUnder (RowHit x k) h = hasRun x (newest (k - x) h)
 mayMissUnder (AnyMiss x k) h = leb (k - x) (hits (newest (k - 1) h))
-mayMissUnder (RowMiss x) h = leb 1 (hits (newest x h))
+mayMissUnder (RowMiss x) h = leb 1 (hits (newest (x - 1) h))
 
 -- under every limit of a set
 unfoldable pub mayMiss : LimitSet → ℕ → Bool

@@ -89,7 +89,7 @@ pub fn limit_may_miss(limit: Limit, history: u16) -> bool
     if kind == 2 {
         return enough_hits(history, k - 1, k - x);
     }
-    enough_hits(history, x, 1)
+    enough_hits(history, x - 1, 1)
 }
 
 // How many outcomes before a job lie in one window with it.
@@ -99,7 +99,7 @@ pub fn reach(limit: Limit) -> usize
 {
     let kind = limit.kind;
     if kind == 3 {
-        return limit.x as usize;
+        return (limit.x - 1) as usize;
     }
     (limit.k - 1) as usize
 }

@@ -1,7 +1,7 @@
 -- The laws of kept, said of a whole set: two-way endless sequences, empty, hits, parts. Each follows from the same law of one limit. Assumes nothing.
 use mathlib.Core.Path.{_≡_, refl, sym, ap, _∙_, subst}
 use mathlib.Core.Logic.{_↔_}
-use mathlib.Core.Bool.{Bool, true, false, true≢false}
+use mathlib.Core.Bool.{Bool, true}
 use mathlib.Core.List.{List, [], _∷_, _++_}
 use Prim.Native.Nat.{ℕ, zero, suc, _<_}
 use native.Mathlib.Omega.{arith}
@@ -14,6 +14,7 @@ use Rattle.meaning.specs.Holds.{Holds, misses}
 use Rattle.meaning.specs.Kept.{Always, Kept, Occurs}
 use Rattle.meaning.specs.Sets.{SetAllowed, KeptBy, ruleAt}
 use Rattle.meaning.proofs.Monotone.{Up}
+use Rattle.meaning.proofs.TwoKinds.{row-miss-hit}
 use Rattle.meaning.proofs.TwoWay.{kept-of, kept-occurs, occurs-around, kept-part, kept-hit}
 use Rattle.meaning.proofs.MissMore.{hits-replicate, run-hits}
 
@@ -30,7 +31,7 @@ all-hits-hold : (w : ℕ) (l : Rule) → RuleAllowed w l → Holds l (replicate 
 all-hits-hold w (AnyHit x k) (a, b, c) = omega (arith, hits-replicate k)
 all-hits-hold w (RowHit x k) (a, b, c) = run-hits x k c
 all-hits-hold w (AnyMiss x k) (a, b, c) = omega (arith, misses-replicate k)
-all-hits-hold w (RowMiss x) a = λ q. let g : true ≡ false = cc in true≢false g
+all-hits-hold w (RowMiss x) (a, b) = row-miss-hit x (replicate x true) .1 (omega (arith, hits-replicate x))
 
 -- RULES, Kept: "The empty pattern is kept by every set."
 pub kept-empty : (w : ℕ) (l : Rule) → RuleAllowed w l → Kept l []

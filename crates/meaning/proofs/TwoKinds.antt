@@ -1,4 +1,4 @@
--- AnyMiss(x,k) is AnyHit(k-x,k), and RowMiss(x) is AnyHit(1,x+1), on each window. Assumes nothing.
+-- AnyMiss(x,k) is AnyHit(k-x,k), and RowMiss(x) is AnyHit(1,x), on each window. Assumes nothing.
 use mathlib.Core.Path.{_≡_, refl, sym, ap, _∙_, subst}
 use mathlib.Core.Logic.{_↔_}
 use mathlib.Core.Bool.{Bool, true, false}
@@ -34,7 +34,7 @@ hits-of-misses : (n : ℕ) → hits (replicate n false) ≡ zero
 hits-of-misses zero = refl
 hits-of-misses (suc n) = hits-of-misses n
 
-pub row-miss-hit : (x : ℕ) (w : List Bool) → Holds (RowMiss x) w ↔ Holds (AnyHit 1 (suc x)) w
+pub row-miss-hit : (x : ℕ) (w : List Bool) → Holds (RowMiss x) w ↔ Holds (AnyHit 1 x) w
 row-miss-hit x w = (λ m. some (hits w) refl m, λ m e. let g : hits w ≡ zero = ap hits e ∙ hits-of-misses (length w) in omega arith)
   where
     some : (n : ℕ) → hits w ≡ n → Holds (RowMiss x) w → 1 ≤ hits w
@@ -51,5 +51,5 @@ kept-same l m e f p = (
 pub any-miss-kept : (x k : ℕ) → x ≤ k → (p : List Bool) → Kept (AnyMiss x k) p ↔ Kept (AnyHit (k - x) k) p
 any-miss-kept x k h = kept-same (AnyMiss x k) (AnyHit (k - x) k) refl (λ w e. any-miss-hit x k w h e)
 
-pub row-miss-kept : (x : ℕ) (p : List Bool) → Kept (RowMiss x) p ↔ Kept (AnyHit 1 (suc x)) p
-row-miss-kept x = kept-same (RowMiss x) (AnyHit 1 (suc x)) refl (λ w e. row-miss-hit x w)
+pub row-miss-kept : (x : ℕ) (p : List Bool) → Kept (RowMiss x) p ↔ Kept (AnyHit 1 x) p
+row-miss-kept x = kept-same (RowMiss x) (AnyHit 1 x) refl (λ w e. row-miss-hit x w)

@@ -1,6 +1,5 @@
 -- The window of an allowed limit: it has a job, and no more of them than the longest window; and the limit stays allowed where the longest is no wider than a set's own. Assumes nothing.
 use Prim.Native.Nat.{ℕ, _≤_, _<_}
-use native.Mathlib.Omega.{arith}
 use Rattle.meaning.specs.declared.LimitSet.{LimitSet}
 use Rattle.meaning.specs.Limit.{Rule, AnyHit, RowHit, AnyMiss, RowMiss, RuleAllowed, ruleOf, width}
 use Rattle.meaning.specs.Sets.{SetAllowed, limitAt}
@@ -9,13 +8,13 @@ pub width-allowed : (w : ℕ) (l : Rule) → RuleAllowed w l → (1 ≤ width l)
 width-allowed w (AnyHit x k) (a, b, c) = (a, b)
 width-allowed w (RowHit x k) (a, b, c) = (a, b)
 width-allowed w (AnyMiss x k) (a, b, c) = (a, b)
-width-allowed w (RowMiss x) a = (omega arith, a)
+width-allowed w (RowMiss x) a = a
 
 narrower : (w v : ℕ) (l : Rule) → RuleAllowed w l → width l ≤ v → RuleAllowed v l
 narrower w v (AnyHit x k) (a, b, c) h = (a, h, c)
 narrower w v (RowHit x k) (a, b, c) h = (a, h, c)
 narrower w v (AnyMiss x k) (a, b, c) h = (a, h, c)
-narrower w v (RowMiss x) a h = h
+narrower w v (RowMiss x) (a, b) h = (a, h)
 
 -- every limit's window is no wider than v
 pub set-narrower : (w v : ℕ) (s : LimitSet) → SetAllowed w s → ((i : ℕ) → i < s .count → width (ruleOf (limitAt s i)) ≤ v) → SetAllowed v s

@@ -151,9 +151,9 @@ rows =
     ∷ panic (row-hit 4 10) seven-then-three
     ∷ between (any-miss 2 5) (any-miss 3 7) (o ∷ o ∷ i ∷ i ∷ i ∷ o ∷ o ∷ [])
     ∷ between (any-miss 3 7) (any-miss 2 5) (o ∷ o ∷ o ∷ [])
-    ∷ kept (row-miss 2) (o ∷ o ∷ [])
-    ∷ panic (row-miss 2) (o ∷ o ∷ [])
-    ∷ lost (row-miss 2) (o ∷ o ∷ o ∷ []) 3 0
+    ∷ kept (row-miss 2) (o ∷ [])
+    ∷ panic (row-miss 2) (o ∷ [])
+    ∷ lost (row-miss 2) (o ∷ o ∷ []) 2 0
     ∷ lost (row-hit 2 5) (o ∷ o ∷ o ∷ []) 3 0
     ∷ []
 

@@ -22,14 +22,14 @@ abbrev pub width : Rule → ℕ
 width (AnyHit x k) = k
 width (RowHit x k) = k
 width (AnyMiss x k) = k
-width (RowMiss x) = suc x
+width (RowMiss x) = x
 
--- the column "allowed numbers", with the widest window for its 12 and one less for its 11
+-- the column "allowed numbers", with the widest window for its 12
 abbrev pub RuleAllowed : (widest : ℕ) → Rule → Type 0
 RuleAllowed widest (AnyHit x k) = (1 ≤ k) × (k ≤ widest) × (x ≤ k)
 RuleAllowed widest (RowHit x k) = (1 ≤ k) × (k ≤ widest) × (x ≤ k)
 RuleAllowed widest (AnyMiss x k) = (1 ≤ k) × (k ≤ widest) × (x ≤ k)
-RuleAllowed widest (RowMiss x) = suc x ≤ widest
+RuleAllowed widest (RowMiss x) = (1 ≤ x) × (x ≤ widest)
 
 pub record Allowed (widest : ℕ) (l : Limit) : Type 0 where
   pub kind-known : l .kind ≤ 3

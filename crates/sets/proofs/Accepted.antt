@@ -6,7 +6,7 @@ use mathlib.Core.List.{List}
 use Prim.Native.Nat.{ℕ, zero, suc, _+_, _-_, _*_, _≤_, _<_}
 use native.Mathlib.Decide.{ℕ-discrete}
 use native.Mathlib.Omega.{arith}
-use borrow.Author.Tests.{ltb-false, leb-false, eqb-true, eqb-false, not-false, le-ltb, lt-leb, eq-eqb, ne-eqb}
+use borrow.Author.Tests.{ltb-false, eqb-true, eqb-false, not-false, le-ltb, eq-eqb, ne-eqb}
 use lib.Dec.{eqb, ltb}
 use lib.ListN.{length}
 use Rattle.layout.specs.Bytes.{lengthField, version}
@@ -21,12 +21,16 @@ use Rattle.meaning.specs.Sets.{limitAt, SetAllowed}
 use Rattle.sets.specs.Bytes.{countOf, setOf}
 use Rattle.sets.specs.Rows.{kOutside, xOutside, limitRows, limitsRows, headRows, setRows, memoryRows}
 
+-- from 1 to w: a count, the k of kinds 0, 1 and 2, the x of kind 3
+within : (w n : ℕ) → (eqb n 0 || ltb w n) ≡ false → (1 ≤ n) × (n ≤ w)
+within w n e =
+    let (a, b) = or-none (eqb n 0) (ltb w n) e in
+    let z : n ≡ 0 → ⊥ = eqb-false n 0 a in
+    (omega arith, ltb-false w n b)
+
 -- kinds 0, 1 and 2
 k-and-x : (w x k : ℕ) → (eqb k 0 || ltb w k) ≡ false → ltb k x ≡ false → (1 ≤ k) × (k ≤ w) × (x ≤ k)
-k-and-x w x k e f =
-    let (a, b) = or-none (eqb k 0) (ltb w k) e in
-    let z : k ≡ 0 → ⊥ = eqb-false k 0 a in
-    (omega arith, ltb-false w k b, ltb-false k x f)
+k-and-x w x k e f = let (a, b) = within w k e in (a, b, ltb-false k x f)
 
 abbrev limit : (kind x k : ℕ) → Limit
 limit kind x k = record { kind = kind; x = x; k = k }
@@ -35,7 +39,7 @@ numbers-allowed : (w kind x k : ℕ) → kind ≤ 3 → kOutside w (limit kind x
 numbers-allowed w zero x k h e f = record { kind-known = h; rule-allowed = k-and-x w x k e f; k-unused = λ q. absurd (omega arith) }
 numbers-allowed w (suc zero) x k h e f = record { kind-known = h; rule-allowed = k-and-x w x k e f; k-unused = λ q. absurd (omega arith) }
 numbers-allowed w (suc (suc zero)) x k h e f = record { kind-known = h; rule-allowed = k-and-x w x k e f; k-unused = λ q. absurd (omega arith) }
-numbers-allowed w (suc (suc (suc zero))) x k h e f = record { kind-known = h; rule-allowed = leb-false w x f; k-unused = λ q. eqb-true k 0 (not-false (eqb k 0) e) }
+numbers-allowed w (suc (suc (suc zero))) x k h e f = record { kind-known = h; rule-allowed = within w x f; k-unused = λ q. eqb-true k 0 (not-false (eqb k 0) e) }
 numbers-allowed w (suc (suc (suc (suc kind)))) x k h e f = absurd (omega arith)
 
 pub limit-allowed : (w : ℕ) (l : Limit) (i : ℕ) → first (limitRows w l i) ≡ passed → Allowed w l
@@ -48,7 +52,7 @@ limit-allowed w l i e =
 some-eqb : (n : ℕ) → 1 ≤ n → eqb n 0 ≡ false
 some-eqb n h = ne-eqb n 0 (λ e. omega arith)
 
-ruleset tests = (le-ltb, lt-leb, eq-eqb, some-eqb)
+ruleset tests = (le-ltb, eq-eqb, some-eqb)
 
 pub allowed-limit : (w : ℕ) (l : Limit) (i : ℕ) → Allowed w l → first (limitRows w l i) ≡ passed
 unfolding first
@@ -77,17 +81,11 @@ module _ (w : ℕ) (s : LimitSet) where
       first-append (limitRows w (limitAt s i) i) (limitsRows w s (suc i) n)
       ∙ ap₂ and-then (allowed-limit w (limitAt s i) i (a i (omega arith) (omega arith))) (each-limits (suc i) n (λ j l h. a j (omega arith) (omega arith)))
 
-count-within : (c : ℕ) → (eqb c 0 || ltb 8 c) ≡ false → (1 ≤ c) × (c ≤ 8)
-count-within c e =
-    let (a, b) = or-none (eqb c 0) (ltb 8 c) e in
-    let z : c ≡ 0 → ⊥ = eqb-false c 0 a in
-    (omega arith, ltb-false 8 c b)
-
 allowed-of : (w : ℕ) (s : LimitSet) → (1 ≤ s .count) × (s .count ≤ 8) → first (limitsRows w s 0 (s .count)) ≡ passed → SetAllowed w s
 allowed-of w s (a, b) e = record { some-limit = a; eight-places = b; each = λ i h. limits-each w s 0 (s .count) e i (omega arith) (omega arith) }
 
 pub memory-allowed : (w : ℕ) (s : LimitSet) → first (memoryRows w s) ≡ passed → SetAllowed w s
-memory-allowed w s e = let (a, b) = passed-first _ _ e in allowed-of w s (count-within (s .count) a) b
+memory-allowed w s e = let (a, b) = passed-first _ _ e in allowed-of w s (within 8 (s .count) a) b
 
 allowed-limits : (w : ℕ) (s : LimitSet) → SetAllowed w s → first (limitsRows w s 0 (s .count)) ≡ passed
 allowed-limits w s a = each-limits w s 0 (s .count) (λ j l h. a .each j (omega arith))
@@ -111,7 +109,7 @@ passed-head b e =
     let (a₃, e₃) = passed-first _ _ q in
     let (a₄, e₄) = passed-first _ _ e₃ in
     let r = eqb-true (lengthField b) (2 + 3 * countOf b) (not-false _ a₄) in
-    let (s, t) = count-within (countOf b) a₃ in
+    let (s, t) = within 8 (countOf b) a₃ in
     record { whole = omega arith; rest = r; one = v; some = s; eight = t }
 
 head-passed : (b : List ℕ) → Head b → first (headRows b) ≡ passed

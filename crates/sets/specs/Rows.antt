@@ -2,7 +2,7 @@
 use mathlib.Core.Bool.{Bool, not, cond, _||_}
 use mathlib.Core.List.{List, [], _∷_, _++_}
 use Prim.Native.Nat.{ℕ, zero, suc, _+_, _*_}
-use lib.Dec.{eqb, ltb, leb}
+use lib.Dec.{eqb, ltb}
 use Rattle.layout.specs.Bytes.{lengthField}
 use Rattle.layout.specs.Refusal.{Row, row}
 use Rattle.layout.specs.Head.{headRows as openingRows}
@@ -15,9 +15,9 @@ use Rattle.sets.specs.Bytes.{countOf, setOf}
 abbrev pub kOutside : (widest : ℕ) → Limit → Bool
 kOutside widest l = cond (eqb (l .kind) 3) (not (eqb (l .k) 0)) (eqb (l .k) 0 || ltb widest (l .k))
 
--- "the x of a limit isn't 0 to k; for kind 3, isn't 0 to 11", with one less than the widest window for 11
+-- "the x of a limit isn't 0 to k; for kind 3, isn't 1 to 12", with the widest window for 12
 abbrev pub xOutside : (widest : ℕ) → Limit → Bool
-xOutside widest l = cond (eqb (l .kind) 3) (leb widest (l .x)) (ltb (l .k) (l .x))
+xOutside widest l = cond (eqb (l .kind) 3) (eqb (l .x) 0 || ltb widest (l .x)) (ltb (l .k) (l .x))
 
 -- limit number i
 abbrev pub limitRows : (widest : ℕ) → Limit → (i : ℕ) → List Row

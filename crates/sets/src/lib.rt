@@ -41,7 +41,10 @@ fn fault(limit: Limit, widest: u8) -> u8
         if k != 0 {
             return 6;
         }
-        if widest <= x {
+        if x == 0 {
+            return 7;
+        }
+        if widest < x {
             return 7;
         }
         return 0;

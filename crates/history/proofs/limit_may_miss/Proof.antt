@@ -50,6 +50,9 @@ returns-3 c =
     let s = c .before .before .before .before in
     c .enough-hits2 .ensures ∙ of-kind (s .args .limit) (s .args .history) 2 (c .before .if3 .taken)
 
+sub-enough-hits-4 : tie.Need-sub-enough-hits-4
+sub-enough-hits-4 c = allowed-row-miss longest (c .before .before .before .args .limit) (c .before .before .before .pre) (omega arith) .0
+
 enough-hits-requires-3 : tie.Need-enough-hits-requires-3
 enough-hits-requires-3 c κs =
     omega (arith, allowed-row-miss longest (c .before .before .before .args .limit) (c .before .before .before .pre) (omega arith))
@@ -73,5 +76,6 @@ limit-may-miss-spec =
     sub-enough-hits-3
     enough-hits-requires-2
     returns-3
+    sub-enough-hits-4
     enough-hits-requires-3
     returns-4)

@@ -1,10 +1,10 @@
 -- `sets::fault` meets its contract: each return rewrites the rows with the tests that led there. Assumes nothing.
-use borrow.Author.Tests.{le-ltb, lt-ltb, le-leb, lt-leb, eq-eqb, ne-eqb}
+use borrow.Author.Tests.{le-ltb, lt-ltb, eq-eqb, ne-eqb}
 use Rattle.layout.specs.Refusal.{first}
 use Rattle.sets.proofs.fault.Statement.{statement}
 use Rattle.sets.proofs.fault.Tie as tie
 
-ruleset tests = (lt-ltb, le-ltb, le-leb, lt-leb, eq-eqb, ne-eqb)
+ruleset tests = (lt-ltb, le-ltb, eq-eqb, ne-eqb)
 
 returns : tie.Need-returns
 unfolding first
@@ -38,7 +38,11 @@ returns-8 : tie.Need-returns-8
 unfolding first
 returns-8 c i = search tests
 
+returns-9 : tie.Need-returns-9
+unfolding first
+returns-9 c i = search tests
+
 pub fault-spec : {M : Type 1} → statement M
 fault-spec =
     tie.close
-    (tie.spec returns returns-2 returns-3 returns-4 returns-5 returns-6 returns-7 returns-8)
+    (tie.spec returns returns-2 returns-3 returns-4 returns-5 returns-6 returns-7 returns-8 returns-9)
