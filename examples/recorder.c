@@ -7,7 +7,7 @@
 #include <stdio.h>
 
 /* At most 2 late readings in any 8, and never 2 in a row. */
-static const floe_set limits = {2, {{FLOE_ANY_MISS, 2, 8}, {FLOE_ROW_MISS, 1, 0}}};
+static const floe_set limits = {2, {{FLOE_ANY_MISS, 2, 8}, {FLOE_ROW_MISS, 2, 0}}};
 
 /* One operation, in place of a clock: whether each reading was in time (1) or late (0). */
 static const uint8_t operation[] = {1, 1, 0, 1, 0, 1, 1, 1, 1, 1, 1, 0, 0, 1, 1};

@@ -8,7 +8,7 @@ use std::process::ExitCode;
 use floelinnet::{build, Answer, Guard, Limit, LimitSet, Refused, LONGEST_TABLE, WORK_ENTRIES};
 
 /// At most 2 late readings in any 8, and never 2 in a row.
-const LIMITS: [Limit; 2] = [Limit::AnyMiss { x: 2, k: 8 }, Limit::RowMiss { x: 1 }];
+const LIMITS: [Limit; 2] = [Limit::AnyMiss { x: 2, k: 8 }, Limit::RowMiss { x: 2 }];
 
 /// An operation in place of the clock: whether each reading came in time (1) or late (0).
 const OPERATION: [u8; 15] = [1, 1, 0, 1, 0, 1, 1, 1, 1, 1, 1, 0, 0, 1, 1];

@@ -57,7 +57,7 @@
 
 /* The version of this header and of the archive that it came with. A program is compiled against the header of the
  * archive that it links. */
-#define FLOE_VERSION "0.3.0"
+#define FLOE_VERSION "0.4.0"
 
 #define FLOE_MOST_LIMITS 8      /* limits in a set, at the most */
 #define FLOE_LONGEST_SET 30     /* bytes of the longest set */
@@ -80,7 +80,7 @@ enum floe_kind {
     FLOE_ANY_HIT = 0,  /* at least x hits in every k jobs */
     FLOE_ROW_HIT = 1,  /* x hits in a row in every k jobs */
     FLOE_ANY_MISS = 2, /* at most x misses in every k jobs */
-    FLOE_ROW_MISS = 3  /* at most x misses in a row; x is 0 to 11, k is 0 */
+    FLOE_ROW_MISS = 3  /* x misses in a row never happen, x from 1 to 12; k is 0 */
 };
 
 /* What a guard answers before a job. Test for the first two and take everything else as an alarm, in a switch by its
@@ -149,7 +149,7 @@ typedef struct { uint8_t kind, x, k; } floe_limit;
 
 /* A set of limits in memory. At most 2 misses in every 8 jobs, and never 2 in a row:
  *
- *     floe_set set = {2, {{FLOE_ANY_MISS, 2, 8}, {FLOE_ROW_MISS, 1, 0}}};
+ *     floe_set set = {2, {{FLOE_ANY_MISS, 2, 8}, {FLOE_ROW_MISS, 2, 0}}};
  *
  * count says how many of the places are limits: those from count on aren't looked at, whatever they hold, and a set
  * that was read has zeros there. */

@@ -20,7 +20,7 @@ pub fn measure(figures: &mut Figures) {
         limit(0, 3, 12),
         limit(1, 2, 11),
         limit(2, 7, 12),
-        limit(3, 5, 0),
+        limit(3, 6, 0),
         limit(0, 1, 7),
         limit(1, 1, 6),
         limit(2, 5, 9),

@@ -12,7 +12,7 @@ use sets::Limit;
 
 pub fn width(limit: &Limit) -> usize {
     if limit.kind == 3 {
-        usize::from(limit.x) + 1
+        usize::from(limit.x)
     } else {
         usize::from(limit.k)
     }

@@ -43,13 +43,13 @@ pub fn measure(figures: &mut Figures) {
 
 /// Eight limits of all kinds, of window 12.
 pub fn mixed() -> Vec<Limit> {
-    [(0, 3, 12), (1, 2, 12), (2, 8, 12), (3, 11, 0)].map(|(kind, x, k)| Limit { kind, x, k }).repeat(2)
+    [(0, 3, 12), (1, 2, 12), (2, 8, 12), (3, 12, 0)].map(|(kind, x, k)| Limit { kind, x, k }).repeat(2)
 }
 
 /// Eight limits that are slow to look at: hits counted, runs of one hit, runs of two.
 fn eights() -> [Vec<Limit>; 3] {
     let [any_hit, row_of_1, row_of_2, row_miss] =
-        [(0, 1, 12), (1, 1, 12), (1, 2, 12), (3, 11, 0)].map(|(kind, x, k)| Limit { kind, x, k });
+        [(0, 1, 12), (1, 1, 12), (1, 2, 12), (3, 12, 0)].map(|(kind, x, k)| Limit { kind, x, k });
     [vec![any_hit; 8], [vec![row_miss; 2], vec![row_of_1; 6]].concat(), vec![row_of_2; 8]]
 }
 

@@ -193,8 +193,8 @@ static void logs(const uint8_t *set, size_t set_len, const uint8_t *faulty, size
 }
 
 int main(void) {
-    /* RowMiss(2) with AnyMiss(2,5); AnyMiss(3,7); and AnyHit(1,2) with a second limit of no kind. */
-    const uint8_t set_bytes[] = {0, 0, 0, 8, 1, 2, 3, 2, 0, 2, 2, 5};
+    /* RowMiss(3) with AnyMiss(2,5); AnyMiss(3,7); and AnyHit(1,2) with a second limit of no kind. */
+    const uint8_t set_bytes[] = {0, 0, 0, 8, 1, 2, 3, 3, 0, 2, 2, 5};
     const uint8_t other_bytes[] = {0, 0, 0, 5, 1, 1, 2, 3, 7};
     const uint8_t faulty_bytes[] = {0, 0, 0, 8, 1, 2, 0, 1, 2, 4, 0, 1};
     const uint8_t pattern_bytes[] = {1, 0, 1, 0, 0, 1};

@@ -49,7 +49,7 @@ static void kinds(void) {
         {FLOE_ANY_HIT, 2, 5, true, true, true},
         {FLOE_ROW_HIT, 2, 5, true, false, false},
         {FLOE_ANY_MISS, 3, 5, true, true, true},
-        {FLOE_ROW_MISS, 1, 0, false, false, true},
+        {FLOE_ROW_MISS, 2, 0, false, false, true},
     };
     const uint8_t misses[] = {FLOE_MISS, FLOE_MISS, FLOE_MISS}, apart[] = {FLOE_MISS, FLOE_HIT, FLOE_MISS};
     for (size_t i = 0; i < sizeof kinds / sizeof *kinds; i++) {
@@ -64,7 +64,7 @@ static void kinds(void) {
 
 static void sizes(void) {
     uint8_t set[FLOE_LONGEST_SET + 3];
-    floe_set most = {FLOE_MOST_LIMITS, {{FLOE_ROW_MISS, 1, 0}}};
+    floe_set most = {FLOE_MOST_LIMITS, {{FLOE_ROW_MISS, 2, 0}}};
     for (size_t i = 0; i < FLOE_MOST_LIMITS; i++) most.limits[i] = most.limits[0];
     HOLDS(floe_write_set(most, set, FLOE_LONGEST_SET).length == FLOE_LONGEST_SET);
     HOLDS(floe_write_set(most, set, FLOE_LONGEST_SET - 1).at == FLOE_LONGEST_SET);
@@ -136,6 +136,9 @@ static void refusals(void) {
     HOLDS(floe_read_set(two_limits, sizeof two_limits).refused == FLOE_REFUSED_LIMITS_LENGTH);
     HOLDS(refused(limit(FLOE_ANY_HIT, 1, 13)) == FLOE_REFUSED_LIMIT_K);
     HOLDS(refused(limit(FLOE_ANY_HIT, 3, 2)) == FLOE_REFUSED_LIMIT_X);
+    HOLDS(refused(limit(FLOE_ROW_MISS, 0, 0)) == FLOE_REFUSED_LIMIT_X);
+    HOLDS(refused(limit(FLOE_ROW_MISS, 12, 0)) == FLOE_ACCEPTED);
+    HOLDS(refused(limit(FLOE_ROW_MISS, 13, 0)) == FLOE_REFUSED_LIMIT_X);
     HOLDS(floe_build(one_of_two, sizeof one_of_two, work, FLOE_WORK_ENTRIES, table, 0).refused == FLOE_REFUSED_ROOM);
     size_t length = table_of(1);
     HOLDS(floe_check_table(table, length - 1).refused == FLOE_REFUSED_TABLE_LENGTH);

@@ -14,8 +14,8 @@ static unsigned char stack[STACK];
 static ucontext_t outside, inside;
 
 static const floe_set all_kinds = {8, {{FLOE_ANY_HIT, 3, 9}, {FLOE_ROW_HIT, 2, 9}, {FLOE_ANY_MISS, 7, 12},
-                                       {FLOE_ROW_MISS, 3, 0}, {FLOE_ANY_HIT, 2, 10}, {FLOE_ROW_HIT, 1, 5},
-                                       {FLOE_ANY_MISS, 8, 11}, {FLOE_ROW_MISS, 4, 0}}};
+                                       {FLOE_ROW_MISS, 4, 0}, {FLOE_ANY_HIT, 2, 10}, {FLOE_ROW_HIT, 1, 5},
+                                       {FLOE_ANY_MISS, 8, 11}, {FLOE_ROW_MISS, 5, 0}}};
 static uint8_t set[FLOE_LONGEST_SET], other[] = {0, 0, 0, 5, 1, 1, FLOE_ANY_HIT, 6, 12}, table[FLOE_LONGEST_TABLE];
 static uint16_t work[FLOE_WORK_ENTRIES];
 static size_t set_len, table_len;

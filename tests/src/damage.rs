@@ -50,7 +50,7 @@ pub fn faulty_set(draw: &mut Draw) -> Vec<u8> {
             limit.k = draw.of(&[0, 1, 13, 255]);
         }
         if draw.one_in(8) {
-            limit.x = draw.of(&[limit.k.saturating_add(1), 11, 12, 255]);
+            limit.x = draw.of(&[limit.k.saturating_add(1), 0, 12, 13, 255]);
         }
     }
     let mut bytes = sets::bytes(&limits);

@@ -41,7 +41,7 @@ impl Draw {
     pub fn limit(&mut self) -> Limit {
         let kind = self.below(4) as u8;
         if kind == 3 {
-            return Limit { kind, x: self.below(12) as u8, k: 0 };
+            return Limit { kind, x: 1 + self.below(12) as u8, k: 0 };
         }
         let k = 1 + self.below(12);
         Limit { kind, x: self.below(k + 1) as u8, k: k as u8 }
@@ -52,7 +52,7 @@ impl Draw {
         let kind = self.below(4) as u8;
         let some = self.below(4) as u8;
         if kind == 3 {
-            return Limit { kind, x: 1 + some, k: 0 };
+            return Limit { kind, x: 2 + some, k: 0 };
         }
         let k = 6 + self.below(7) as u8;
         Limit { kind, x: if kind == 2 { k - 1 - some } else { 1 + some.min(2) }, k }
@@ -75,7 +75,7 @@ impl Draw {
             2 => near.swap(0, place),
             _ => {
                 let limit = &mut near[place];
-                let most = if limit.kind == 3 { 11 } else { limit.k };
+                let most = if limit.kind == 3 { 12 } else { limit.k };
                 limit.x = if limit.x == most { most - 1 } else { limit.x + 1 };
             }
         }

@@ -92,7 +92,7 @@ fn refusals() {
         (&[0, 0, 0, 5, 1, 2, 0, 1, 2], "refused 4 at 0\n"),
         (&[0, 0, 0, 8, 1, 2, 0, 1, 2, 4, 1, 2], "refused 5 at 1\n"),
         (&[0, 0, 0, 11, 1, 3, 0, 1, 2, 0, 1, 2, 1, 1, 13], "refused 6 at 2\n"),
-        (&[0, 0, 0, 8, 1, 2, 0, 1, 2, 3, 12, 0], "refused 7 at 1\n"),
+        (&[0, 0, 0, 8, 1, 2, 0, 1, 2, 3, 13, 0], "refused 7 at 1\n"),
     ];
     for (input, line) in rows {
         assert_eq!(printed(input), line, "{input:02X?}");

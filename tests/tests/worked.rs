@@ -81,8 +81,8 @@ fn verdicts() {
     judged(any_miss(3, 7), "0011100", 7);
     judged(any_miss(3, 7), "0001111", 0);
     judged(any_miss(2, 5), "0001111", 3);
-    judged(row_miss(2), "00", 0);
-    judged(row_miss(2), "000", 3);
+    judged(row_miss(2), "0", 0);
+    judged(row_miss(2), "00", 2);
     judged(row_hit(2, 5), "000", 3);
     judged(row_hit(2, 5), "00011", 3);
     judged(any_hit(1, 1), "", 0);
@@ -91,8 +91,8 @@ fn verdicts() {
 #[test]
 fn panic() {
     assert!(panics(&[row_hit(4, 10)], &pattern("1111111000")));
-    assert!(panics(&[row_miss(2)], &pattern("00")));
-    assert!(!panics(&[row_miss(2)], &pattern("000")), "lost is not panic");
+    assert!(panics(&[row_miss(2)], &pattern("0")));
+    assert!(!panics(&[row_miss(2)], &pattern("00")), "lost is not panic");
     assert!(set_keeps(&[any_hit(1, 1)], &[]) && panics(&[any_hit(1, 1)], &[]));
 }
 

@@ -61,7 +61,7 @@ fn any_set_any_buffer() {
 /// A caller who hands lengths on and looks at the last answer alone sees that limits were refused.
 #[test]
 fn refused_limits_handed_on() {
-    for (count, kind, x, k) in [(0, 0, 1, 2), (9, 0, 1, 2), (1, 4, 1, 2), (1, 0, 1, 13), (1, 0, 3, 2)] {
+    for (count, kind, x, k) in [(0, 0, 1, 2), (9, 0, 1, 2), (1, 4, 1, 2), (1, 0, 1, 13), (1, 0, 3, 2), (1, 3, 0, 0)] {
         let set = floe::Set { count, limits: [floe::Limit { kind, x, k }; 8] };
         let (mut bytes, mut work, mut table) = ([7; 30], [7; 8192], [7; 8199]);
         let written = floe::sets::write_set(set, &mut bytes);

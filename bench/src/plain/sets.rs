@@ -72,14 +72,14 @@ pub fn write(set: &Set, bytes: &mut [u8]) -> Result<usize, Refusal> {
 }
 
 fn test(limit: &Limit, number: usize) -> Result<(), Refusal> {
-    let (row_miss, most) = (limit.kind == 3, if limit.kind == 3 { 11 } else { limit.k });
     if limit.kind > 3 {
         return Err((5, number));
     }
-    if (row_miss && limit.k != 0) || (!row_miss && !(1..=12).contains(&limit.k)) {
+    let (ks, xs) = if limit.kind == 3 { (0..=0, 1..=12) } else { (1..=12, 0..=limit.k) };
+    if !ks.contains(&limit.k) {
         return Err((6, number));
     }
-    if limit.x > most {
+    if !xs.contains(&limit.x) {
         return Err((7, number));
     }
     Ok(())

@@ -23,7 +23,7 @@
 //! use floelinnet::{build, Answer, Guard, Limit, LimitSet, Refused, LONGEST_TABLE, MISS, WORK_ENTRIES};
 //!
 //! // At most 2 misses in any 8, and never 2 in a row.
-//! let set = LimitSet::new(&[Limit::AnyMiss { x: 2, k: 8 }, Limit::RowMiss { x: 1 }])?;
+//! let set = LimitSet::new(&[Limit::AnyMiss { x: 2, k: 8 }, Limit::RowMiss { x: 2 }])?;
 //! let mut table = [0; LONGEST_TABLE];
 //! let length = build(set.bytes(), &mut [0; WORK_ENTRIES], &mut table)?;
 //! let table = &table[..length];

@@ -12,7 +12,7 @@ use crate::MOST_LIMITS;
 pub struct Limit {
     /// 0 AnyHit, 1 RowHit, 2 AnyMiss, 3 RowMiss.
     pub kind: u8,
-    /// The bound.
+    /// The bound; for RowMiss the window's length too.
     pub x: u8,
     /// The window's length; 0 for RowMiss.
     pub k: u8,

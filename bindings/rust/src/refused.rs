@@ -23,7 +23,7 @@ pub enum Refused {
         /// The number of the limit.
         limit: usize,
     },
-    /// 7: the x of this limit, counted from 0, isn't 0 to k, or for RowMiss isn't 0 to 11.
+    /// 7: the x of this limit, counted from 0, isn't 0 to k, or for RowMiss isn't 1 to 12.
     LimitX {
         /// The number of the limit.
         limit: usize,
@@ -107,7 +107,7 @@ impl fmt::Display for Refused {
             Refused::LimitsLength => f.write_str("the set's length field isn't 2 + 3 times its count of limits"),
             Refused::LimitKind { limit } => write!(f, "the kind of limit {limit} is above 3"),
             Refused::LimitK { limit } => write!(f, "the k of limit {limit} isn't 1 to 12 (RowMiss: 0)"),
-            Refused::LimitX { limit } => write!(f, "the x of limit {limit} isn't 0 to its k (RowMiss: 0 to 11)"),
+            Refused::LimitX { limit } => write!(f, "the x of limit {limit} isn't 0 to its k (RowMiss: 1 to 12)"),
             Refused::WorkLength => f.write_str("the work area has fewer than 8192 entries"),
             Refused::Room { needed } => write!(f, "the buffer is shorter than the {needed} bytes to be written"),
             Refused::TableLength => {

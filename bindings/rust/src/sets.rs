@@ -27,9 +27,9 @@ pub enum Limit {
         /// Of how many jobs, 1 to 12.
         k: u8,
     },
-    /// At most x misses in a row.
+    /// x misses in a row never happen, x from 1 to 12.
     RowMiss {
-        /// How many misses, 0 to 11.
+        /// How many misses, 1 to 12.
         x: u8,
     },
 }
@@ -85,8 +85,8 @@ impl LimitSet {
     /// ```
     /// use floelinnet::{Limit, LimitSet, Refused};
     ///
-    /// let set = LimitSet::new(&[Limit::AnyMiss { x: 2, k: 8 }, Limit::RowMiss { x: 1 }])?;
-    /// assert_eq!(set.bytes(), [0, 0, 0, 8, 1, 2, 2, 2, 8, 3, 1, 0]);
+    /// let set = LimitSet::new(&[Limit::AnyMiss { x: 2, k: 8 }, Limit::RowMiss { x: 2 }])?;
+    /// assert_eq!(set.bytes(), [0, 0, 0, 8, 1, 2, 2, 2, 8, 3, 2, 0]);
     ///
     /// assert_eq!(LimitSet::new(&[]), Err(Refused::LimitCount));
     /// let window_too_long = Limit::AnyHit { x: 1, k: 13 };
@@ -131,8 +131,8 @@ impl fmt::Debug for LimitSet {
 /// ```
 /// use floelinnet::{read_set, Limit, Refused};
 ///
-/// let set = read_set(&[0, 0, 0, 8, 1, 2, 2, 2, 8, 3, 1, 0])?;
-/// assert!(set.limits().eq([Limit::AnyMiss { x: 2, k: 8 }, Limit::RowMiss { x: 1 }]));
+/// let set = read_set(&[0, 0, 0, 8, 1, 2, 2, 2, 8, 3, 2, 0])?;
+/// assert!(set.limits().eq([Limit::AnyMiss { x: 2, k: 8 }, Limit::RowMiss { x: 2 }]));
 ///
 /// assert_eq!(read_set(&[0, 0, 0, 5, 1, 1, 0, 1, 13]), Err(Refused::LimitK { limit: 0 }));
 /// # Ok::<(), Refused>(())

@@ -26,10 +26,10 @@ fn of_sets() {
     says(refused(&with(SET, 4, 2)), 2, 0, "the set's version isn't 1");
     says(refused(&with(SET, 5, 9)), 3, 0, "the set's count of limits is 0 or above 8");
     says(refused(&with(SET, 5, 2)), 4, 0, "the set's length field isn't 2 + 3 times its count of limits");
-    let three = |kind, x, k| [0, 0, 0, 11, 1, 3, 0, 1, 2, 3, 11, 0, kind, x, k];
+    let three = |kind, x, k| [0, 0, 0, 11, 1, 3, 0, 1, 2, 3, 12, 0, kind, x, k];
     says(refused(&three(4, 1, 2)), 5, 2, "the kind of limit 2 is above 3");
     says(refused(&three(3, 1, 2)), 6, 2, "the k of limit 2 isn't 1 to 12 (RowMiss: 0)");
-    says(refused(&three(0, 3, 2)), 7, 2, "the x of limit 2 isn't 0 to its k (RowMiss: 0 to 11)");
+    says(refused(&three(0, 3, 2)), 7, 2, "the x of limit 2 isn't 0 to its k (RowMiss: 1 to 12)");
 }
 
 #[test]
@@ -41,8 +41,10 @@ fn of_sets_made_of_limits() {
     }
     let (k_too_long, x_above_k) = (Limit::RowHit { x: 1, k: 13 }, Limit::AnyMiss { x: 3, k: 2 });
     says(refused(&[one_of_two, k_too_long]), 6, 1, "the k of limit 1 isn't 1 to 12 (RowMiss: 0)");
-    says(refused(&[one_of_two, x_above_k]), 7, 1, "the x of limit 1 isn't 0 to its k (RowMiss: 0 to 11)");
-    says(refused(&[Limit::RowMiss { x: 12 }]), 7, 0, "the x of limit 0 isn't 0 to its k (RowMiss: 0 to 11)");
+    says(refused(&[one_of_two, x_above_k]), 7, 1, "the x of limit 1 isn't 0 to its k (RowMiss: 1 to 12)");
+    for x in [0, 13] {
+        says(refused(&[Limit::RowMiss { x }]), 7, 0, "the x of limit 0 isn't 0 to its k (RowMiss: 1 to 12)");
+    }
 }
 
 #[test]

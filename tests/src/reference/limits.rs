@@ -12,7 +12,7 @@ pub struct Limit {
 /// The column "window".
 pub fn width(limit: Limit) -> usize {
     match limit.kind {
-        3 => usize::from(limit.x) + 1,
+        3 => usize::from(limit.x),
         _ => usize::from(limit.k),
     }
 }
@@ -63,6 +63,6 @@ pub fn allowed_limits() -> Vec<Limit> {
             limits.extend((0..=k).map(|x| Limit { kind, x, k }));
         }
     }
-    limits.extend((0..=11).map(|x| Limit { kind: 3, x, k: 0 }));
+    limits.extend((1..=12).map(|x| Limit { kind: 3, x, k: 0 }));
     limits
 }

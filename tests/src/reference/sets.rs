@@ -60,8 +60,8 @@ fn test(limit: &Limit, number: usize) -> Result<(), Refusal> {
     if !ks.contains(&limit.k) {
         return refuse(6, number);
     }
-    // "the x of a limit isn't 0 to k; for kind 3, isn't 0 to 11"
-    let xs = if limit.kind == 3 { 0..=11 } else { 0..=limit.k };
+    // "the x of a limit isn't 0 to k; for kind 3, isn't 1 to 12"
+    let xs = if limit.kind == 3 { 1..=12 } else { 0..=limit.k };
     if !xs.contains(&limit.x) {
         return refuse(7, number);
     }

@@ -49,7 +49,7 @@ fn readme_shows_the_examples() {
 /// How many functions the header declares.
 const FUNCTIONS: usize = 16;
 
-const SET: &[u8] = &[0, 0, 0, 8, 1, 2, 3, 2, 0, 2, 2, 5];
+const SET: &[u8] = &[0, 0, 0, 8, 1, 2, 3, 3, 0, 2, 2, 5];
 const OTHER: &[u8] = &[0, 0, 0, 5, 1, 1, 2, 3, 7];
 const FAULTY: &[u8] = &[0, 0, 0, 8, 1, 2, 0, 1, 2, 4, 0, 1];
 const PATTERN: &[u8] = &[1, 0, 1, 0, 0, 1];

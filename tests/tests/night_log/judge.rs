@@ -64,7 +64,7 @@ fn very_long_logs() {
     let (mut kept, mut lost_late) = (0, 0);
     for _ in 0..cases(100) {
         let limit = Limit { kind: 2, x: 2, k: 2 + draw.below(11) as u8 };
-        let set = sets::bytes(&[limit, Limit { kind: 3, x: 1, k: 0 }]);
+        let set = sets::bytes(&[limit, Limit { kind: 3, x: 2, k: 0 }]);
         let jobs = 60_000 + draw.below(12_000);
         let mut pattern = draw.pattern(jobs, usize::MAX);
         for place in (0..jobs).step_by(7 + draw.below(6)) {
@@ -100,7 +100,7 @@ fn order_of_the_tests() {
         (&[0, 0, 0, 5, 1, 2, 0, 1, 2], 4, 0),
         (&[0, 0, 0, 8, 1, 2, 0, 1, 2, 4, 1, 2], 5, 1),
         (&[0, 0, 0, 8, 1, 2, 0, 1, 2, 1, 1, 13], 6, 1),
-        (&[0, 0, 0, 8, 1, 2, 0, 1, 2, 3, 12, 0], 7, 1),
+        (&[0, 0, 0, 8, 1, 2, 0, 1, 2, 3, 0, 0], 7, 1),
         (&[0, 0, 0, 5, 1, 1, 0, 1, 1], 0, 0),
     ];
     let logs: [(&[u8], usize); 5] = [
