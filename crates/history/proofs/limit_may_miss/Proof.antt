@@ -51,7 +51,8 @@ returns-3 c =
     c .enough-hits2 .ensures ∙ of-kind (s .args .limit) (s .args .history) 2 (c .before .if3 .taken)
 
 sub-enough-hits-4 : tie.Need-sub-enough-hits-4
-sub-enough-hits-4 c = allowed-row-miss longest (c .before .before .before .args .limit) (c .before .before .before .pre) (omega arith) .0
+sub-enough-hits-4 c =
+    omega (arith, allowed-row-miss longest (c .before .before .before .args .limit) (c .before .before .before .pre) (omega arith))
 
 enough-hits-requires-3 : tie.Need-enough-hits-requires-3
 enough-hits-requires-3 c κs =

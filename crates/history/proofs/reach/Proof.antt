@@ -20,7 +20,7 @@ x-wide : (kind x k : ℕ) → kind ≡ 3 → width (ruleFrom kind x k) ≡ x
 x-wide kind x k e = ap (λ z. width (ruleFrom z x k)) e
 
 sub-result : tie.Need-sub-result
-sub-result c = let s = c .before .before in allowed-row-miss longest (s .args .limit) (s .pre) (c .before .if1 .taken) .0
+sub-result c = let s = c .before .before in omega (arith, allowed-row-miss longest (s .args .limit) (s .pre) (c .before .if1 .taken))
 
 cast-result : tie.Need-cast-result
 cast-result c = search needs
@@ -32,7 +32,7 @@ returns c =
     omega (arith, x-wide (l .kind) (l .x) (l .k) (c .before .if1 .taken), allowed-row-miss longest l (s .pre) (c .before .if1 .taken) .0)
 
 sub-result-2 : tie.Need-sub-result-2
-sub-result-2 c = let s = c .before .before in allowed-numbers longest (s .args .limit) (s .pre) (omega (arith, s .pre .kind-known)) .0
+sub-result-2 c = let s = c .before .before in omega (arith, allowed-numbers longest (s .args .limit) (s .pre) (omega (arith, s .pre .kind-known)))
 
 cast-result-2 : tie.Need-cast-result-2
 cast-result-2 c = search needs
