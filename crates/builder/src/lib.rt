@@ -2,7 +2,6 @@
 // Refuses by 1 to 7, then by 8 for a work area that is too short and by 9 for a table buffer that is.
 mod write;
 
-ghost use mathlib.Core.Path.{_≡_};
 ghost use Prim.Native.Nat.{_-_, _≤_};
 ghost use lib.ListN.{length};
 ghost use Rattle.machines.specs.Machine.{Machine};

@@ -1,4 +1,4 @@
--- The window of an allowed limit: it has a job, and no more of them than the longest window; and the limit stays allowed where the longest is no wider than a set's own. Assumes nothing.
+-- What allowed numbers say of windows: that of a limit has at least one job and no more than the longest, and a set stays allowed where the longest is cut down to its own widest. Assumes nothing.
 use Prim.Native.Nat.{ℕ, _≤_, _<_}
 use Rattle.meaning.specs.declared.LimitSet.{LimitSet}
 use Rattle.meaning.specs.Limit.{Rule, AnyHit, RowHit, AnyMiss, RowMiss, RuleAllowed, ruleOf, width}
