@@ -30,6 +30,19 @@ fn every_limit_alone_on_all_short_patterns() {
     }
 }
 
+/// "RowMiss(x) says that x misses in a row never happen, x from 1 to 12."
+#[test]
+fn row_misses() {
+    for x in 1..=12 {
+        let set = sets::bytes(&[Limit { kind: 3, x, k: 0 }]);
+        let fewer = vec![MISS; usize::from(x) - 1];
+        let kept = [&fewer[..], &[HIT], &fewer].concat();
+        assert_eq!(agree(&set, &kept), floe::Verdict { kept: 1, ..Default::default() }, "RowMiss({x})");
+        let lost = floe::Verdict { job: 2 * u64::from(x), ..Default::default() };
+        assert_eq!(agree(&set, &[&kept[..], &[MISS]].concat()), lost, "RowMiss({x})");
+    }
+}
+
 #[test]
 fn random_sets_on_all_short_patterns() {
     let mut draw = Draw::new(11);
