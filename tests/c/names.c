@@ -137,6 +137,7 @@ static void refusals(void) {
     HOLDS(refused(limit(FLOE_ANY_HIT, 1, 13)) == FLOE_REFUSED_LIMIT_K);
     HOLDS(refused(limit(FLOE_ANY_HIT, 3, 2)) == FLOE_REFUSED_LIMIT_X);
     HOLDS(refused(limit(FLOE_ROW_MISS, 0, 0)) == FLOE_REFUSED_LIMIT_X);
+    HOLDS(refused(limit(FLOE_ROW_MISS, 1, 0)) == FLOE_ACCEPTED);
     HOLDS(refused(limit(FLOE_ROW_MISS, 12, 0)) == FLOE_ACCEPTED);
     HOLDS(refused(limit(FLOE_ROW_MISS, 13, 0)) == FLOE_REFUSED_LIMIT_X);
     HOLDS(floe_build(one_of_two, sizeof one_of_two, work, FLOE_WORK_ENTRIES, table, 0).refused == FLOE_REFUSED_ROOM);

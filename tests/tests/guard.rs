@@ -73,6 +73,26 @@ fn all_short_patterns_on_tables_of_sets() {
     }
 }
 
+/// "RowMiss(x) says that x misses in a row never happen, x from 1 to 12.": x-1 are normal and then panic, x are lost.
+#[test]
+fn row_misses() {
+    for x in 1..=12 {
+        let (mut table, mut work) = ([0; 8199], [0; 8192]);
+        let built = floe::builder::build(&[0, 0, 0, 5, 1, 1, 3, x, 0], &mut work, &mut table);
+        let table = &table[..built.length as usize];
+        let mut guard = floe::guard::start(table).guard;
+        for misses in 0..=x + 1 {
+            let want = match misses + 1 {
+                next if next < x => Answer::Normal,
+                next if next == x => Answer::Panic,
+                _ => Answer::Lost,
+            };
+            assert_eq!(floe::guard::ask(guard, table).answer, want as u64, "RowMiss({x}) after {misses} misses");
+            guard = floe::guard::tell(guard, table, 0).guard;
+        }
+    }
+}
+
 /// "Eleven hits in a row, one job less than the longest window, bring it back to state 0 unless it is lost."
 #[test]
 fn long_runs_on_tables_of_sets() {

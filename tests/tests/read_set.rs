@@ -46,7 +46,7 @@ fn every_head() {
         }
     }
     assert!((1..=4).all(|number| seen[number] > 0), "{seen:?}");
-    assert_eq!(seen[0], 8, "c times AnyHit(1,1) for c from 1 to 8");
+    assert_eq!(seen[0], 8, "c times RowHit(1,1) for c from 1 to 8");
 }
 
 #[test]

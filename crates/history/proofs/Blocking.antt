@@ -1,31 +1,16 @@
--- The lowest limit that blocks a miss: none blocks exactly when a miss may follow, and the numbers of an allowed limit. Assumes nothing.
-use mathlib.Core.Path.{_≡_, sym, _∙_, subst}
+-- The lowest limit that blocks a miss: none blocks exactly when a miss may follow. Assumes nothing.
+use mathlib.Core.Path.{_≡_, sym, _∙_}
 use mathlib.Core.Logic.{dite}
 use mathlib.Core.Bool.{true, false, false≢true}
-use Prim.Native.Nat.{ℕ, zero, suc, _≤_, _<_}
+use Prim.Native.Nat.{ℕ, _<_}
 use native.Mathlib.Decide.{ℕ-discrete}
 use native.Mathlib.Omega.{arith}
 use borrow.Author.Tests.{eq-eqb, ne-eqb}
 use lib.Dec.{eqb}
-use Rattle.meaning.specs.declared.Limit.{Limit}
 use Rattle.meaning.specs.declared.LimitSet.{LimitSet}
-use Rattle.meaning.specs.Limit.{Allowed, RuleAllowed, ruleFrom}
 use Rattle.meaning.specs.Sets.{ruleAt}
 use Rattle.meaning.proofs.Decide.{T-true, T-of, every-at, every-from, not-T-false}
 use Rattle.history.specs.MayMiss.{mayMissUnder, mayMiss, Blocks}
-
--- what the code that computes `mayMissUnder` asks of a limit: of the first three kinds, and of the fourth
-pub allowed-numbers : (w : ℕ) (l : Limit) → Allowed w l → l .kind ≤ 2 → (1 ≤ l .k) × (l .k ≤ w) × (l .x ≤ l .k)
-allowed-numbers w l a = go (l .kind) (a .rule-allowed)
-  where
-    go : (kind : ℕ) → RuleAllowed w (ruleFrom kind (l .x) (l .k)) → kind ≤ 2 → (1 ≤ l .k) × (l .k ≤ w) × (l .x ≤ l .k)
-    go zero a h = a
-    go (suc zero) a h = a
-    go (suc (suc zero)) a h = a
-    go (suc (suc (suc kind))) a h = absurd (omega arith)
-
-pub allowed-row-miss : (w : ℕ) (l : Limit) → Allowed w l → l .kind ≡ 3 → (1 ≤ l .x) × (l .x ≤ w)
-allowed-row-miss w l a e = subst (λ kind. RuleAllowed w (ruleFrom kind (l .x) (l .k))) e (a .rule-allowed)
 
 module _ (s : LimitSet) (h : ℕ) where
   pub none-blocks : (i : ℕ) → Blocks s h i → i ≡ s .count → mayMiss s h ≡ true

@@ -1,5 +1,6 @@
 // The history machine of a set: its state is the last outcomes in a number, the newest in the low bit.
 // A hit is always possible; whether a miss is, this crate says from the history alone, limit by limit.
+// How long a history has to be for a limit, `reach` says.
 ghost use mathlib.Core.Path.{_≡_};
 ghost use Prim.Native.Nat.{_+_, _-_, _%_, _^_, _≤_, _<_};
 ghost use lib.Dec.{leb};
@@ -92,18 +93,6 @@ pub fn limit_may_miss(limit: Limit, history: u16) -> bool
     enough_hits(history, x - 1, 1)
 }
 
-// How many outcomes before a job lie in one window with it.
-pub fn reach(limit: Limit) -> usize
-    requires { ⌜ Allowed longest limit ⌝ }
-    ensures { λ r. ⌜ r + 1 ≡ width (ruleOf limit) ⌝ }
-{
-    let kind = limit.kind;
-    if kind == 3 {
-        return (limit.x - 1) as usize;
-    }
-    (limit.k - 1) as usize
-}
-
 // The lowest-numbered limit under which a miss can't follow, or the count of limits where there is none.
 pub fn blocking_limit(set: LimitSet, history: u16) -> usize
     requires { ⌜ SetAllowed longest set ⌝ }
@@ -128,4 +117,16 @@ pub fn may_miss(set: LimitSet, history: u16) -> bool
 {
     let count = set.count;
     blocking_limit(set, history) == count
+}
+
+// How many outcomes before a job lie in one window with it.
+pub fn reach(limit: Limit) -> usize
+    requires { ⌜ Allowed longest limit ⌝ }
+    ensures { λ r. ⌜ r + 1 ≡ width (ruleOf limit) ⌝ }
+{
+    let kind = limit.kind;
+    if kind == 3 {
+        return (limit.x - 1) as usize;
+    }
+    (limit.k - 1) as usize
 }

@@ -1,8 +1,36 @@
 -- What allowed numbers say of windows: that of a limit has at least one job and no more than the longest, and a set stays allowed where the longest is cut down to its own widest. Assumes nothing.
-use Prim.Native.Nat.{ℕ, _≤_, _<_}
+use mathlib.Core.Path.{_≡_, refl, ap, subst}
+use Prim.Native.Nat.{ℕ, zero, suc, _≤_, _<_}
+use native.Mathlib.Omega.{arith}
+use Rattle.meaning.specs.declared.Limit.{Limit}
 use Rattle.meaning.specs.declared.LimitSet.{LimitSet}
-use Rattle.meaning.specs.Limit.{Rule, AnyHit, RowHit, AnyMiss, RowMiss, RuleAllowed, ruleOf, width}
+use Rattle.meaning.specs.Limit.{Rule, AnyHit, RowHit, AnyMiss, RowMiss, Allowed, RuleAllowed, ruleFrom, ruleOf, width}
 use Rattle.meaning.specs.Sets.{SetAllowed, limitAt}
+
+-- the numbers of an allowed limit and its window: of the first three kinds, and of the fourth
+pub allowed-numbers : (w : ℕ) (l : Limit) → Allowed w l → l .kind ≤ 2 → (1 ≤ l .k) × (l .k ≤ w) × (l .x ≤ l .k)
+allowed-numbers w l a = go (l .kind) (a .rule-allowed)
+  where
+    go : (kind : ℕ) → RuleAllowed w (ruleFrom kind (l .x) (l .k)) → kind ≤ 2 → (1 ≤ l .k) × (l .k ≤ w) × (l .x ≤ l .k)
+    go zero a h = a
+    go (suc zero) a h = a
+    go (suc (suc zero)) a h = a
+    go (suc (suc (suc kind))) a h = absurd (omega arith)
+
+pub window-is-k : (l : Limit) → l .kind ≤ 2 → width (ruleOf l) ≡ l .k
+window-is-k l = go (l .kind)
+  where
+    go : (kind : ℕ) → kind ≤ 2 → width (ruleFrom kind (l .x) (l .k)) ≡ l .k
+    go zero h = refl
+    go (suc zero) h = refl
+    go (suc (suc zero)) h = refl
+    go (suc (suc (suc kind))) h = absurd (omega arith)
+
+pub allowed-row-miss : (w : ℕ) (l : Limit) → Allowed w l → l .kind ≡ 3 → (1 ≤ l .x) × (l .x ≤ w)
+allowed-row-miss w l a e = subst (λ kind. RuleAllowed w (ruleFrom kind (l .x) (l .k))) e (a .rule-allowed)
+
+pub window-is-x : (l : Limit) → l .kind ≡ 3 → width (ruleOf l) ≡ l .x
+window-is-x l e = ap (λ kind. width (ruleFrom kind (l .x) (l .k))) e
 
 pub width-allowed : (w : ℕ) (l : Rule) → RuleAllowed w l → (1 ≤ width l) × (width l ≤ w)
 width-allowed w (AnyHit x k) (a, b, c) = (a, b)

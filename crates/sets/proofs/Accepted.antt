@@ -42,7 +42,7 @@ numbers-allowed w (suc (suc zero)) x k h e f = record { kind-known = h; rule-all
 numbers-allowed w (suc (suc (suc zero))) x k h e f = record { kind-known = h; rule-allowed = within w x f; k-unused = λ q. eqb-true k 0 (not-false (eqb k 0) e) }
 numbers-allowed w (suc (suc (suc (suc kind)))) x k h e f = absurd (omega arith)
 
-pub limit-allowed : (w : ℕ) (l : Limit) (i : ℕ) → first (limitRows w l i) ≡ passed → Allowed w l
+limit-allowed : (w : ℕ) (l : Limit) (i : ℕ) → first (limitRows w l i) ≡ passed → Allowed w l
 limit-allowed w l i e =
     let (a, e₁) = passed-first _ _ e in
     let (b, e₂) = passed-first _ _ e₁ in
@@ -54,7 +54,7 @@ some-eqb n h = ne-eqb n 0 (λ e. omega arith)
 
 ruleset tests = (le-ltb, eq-eqb, some-eqb)
 
-pub allowed-limit : (w : ℕ) (l : Limit) (i : ℕ) → Allowed w l → first (limitRows w l i) ≡ passed
+allowed-limit : (w : ℕ) (l : Limit) (i : ℕ) → Allowed w l → first (limitRows w l i) ≡ passed
 unfolding first
 allowed-limit w l i a = go (l .kind) a
   where
@@ -89,10 +89,6 @@ memory-allowed w s e = let (a, b) = passed-first _ _ e in allowed-of w s (within
 
 allowed-limits : (w : ℕ) (s : LimitSet) → SetAllowed w s → first (limitsRows w s 0 (s .count)) ≡ passed
 allowed-limits w s a = each-limits w s 0 (s .count) (λ j l h. a .each j (omega arith))
-
-pub allowed-memory : (w : ℕ) (s : LimitSet) → SetAllowed w s → first (memoryRows w s) ≡ passed
-unfolding first
-allowed-memory w s a = let e = allowed-limits w s a in search tests
 
 -- what the head of accepted bytes says
 pub record Head (b : List ℕ) : Type 0 where

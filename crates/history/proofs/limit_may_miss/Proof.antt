@@ -5,8 +5,8 @@ use native.Mathlib.Omega.{arith}
 use Rattle.meaning.specs.declared.Limit.{Limit}
 use Rattle.meaning.specs.Longest.{longest}
 use Rattle.meaning.specs.Limit.{ruleFrom, ruleOf}
+use Rattle.meaning.proofs.Widths.{allowed-numbers, allowed-row-miss}
 use Rattle.history.specs.MayMiss.{mayMissUnder}
-use Rattle.history.proofs.Blocking.{allowed-numbers, allowed-row-miss}
 use Rattle.history.proofs.limit_may_miss.Statement.{statement}
 use Rattle.history.proofs.limit_may_miss.Tie as tie
 
