@@ -73,7 +73,7 @@ fn all_short_patterns_on_tables_of_sets() {
     }
 }
 
-/// "RowMiss(x) says that x misses in a row never happen, x from 1 to 12.": x-1 are normal and then panic, x are lost.
+/// "RowMiss(x) says that x misses in a row never happen, x from 1 to 12.": after x-1 panic, before normal, then lost.
 #[test]
 fn row_misses() {
     for x in 1..=12 {
