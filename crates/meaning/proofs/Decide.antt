@@ -90,7 +90,7 @@ pub every-from : (n : ℕ) (f : ℕ → Bool) → ((j : ℕ) → j < n → T (f 
 every-from zero f h = tt
 every-from (suc n) f h = and-T (f n) (every n f) .1 (h n (omega arith), every-from n f (λ j l. h j (omega arith)))
 
-window-early : (p : List Bool) (k n : ℕ) → k ≤ suc n → window (around p) (negsuc n) k ≡ replicate k true
+pub window-early : (p : List Bool) (k n : ℕ) → k ≤ suc n → window (around p) (negsuc n) k ≡ replicate k true
 window-early p zero n h = refl
 window-early p (suc k) zero h = let e : k ≡ zero = omega arith in rw e
 window-early p (suc k) (suc n) h = ap {B = List Bool} (λ z. true ∷ z) (window-early p k n (omega arith))

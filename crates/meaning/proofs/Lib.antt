@@ -1,3 +1,4 @@
+pub mod Places
 pub mod Monotone
 pub mod TwoWay
 pub mod TwoKinds
@@ -6,6 +7,7 @@ pub mod Decide
 pub mod SetLaws
 pub mod Search
 pub mod Unique
+pub mod Earliest
 pub mod Widths
 pub mod Witness
 pub mod WorkedRows

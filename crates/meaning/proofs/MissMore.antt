@@ -66,7 +66,7 @@ module _ (p : List Bool) where
       ∙ ap₂ {C = List Bool} (λ a b. window (around p) i n ++ (a ∷ b)) (getD-append-seam p false [] true)
       (window-after p′ r (suc (length p)) (omega (arith, length-append p (false ∷ []))))
 
-  data Near (i : ℤ) (k : ℕ) : Type 0 where
+  pub data Near (i : ℤ) (k : ℕ) : Type 0 where
     apart : window (around p′) i k ≡ window (around p) i k → Near i k
     over : (n r : ℕ) → k ≡ n + suc r → i +ℤ pos n ≡ m → Near i k
 
@@ -75,7 +75,7 @@ module _ (p : List Bool) where
   near-step i k (no h) (apart e) = apart (cc (around-other p false i h))
   near-step i k (no h) (over n r e f) = over (suc n) r (omega arith) (+ℤ-sucℤ i (pos n) ∙ sym (sucℤ-+ℤ i (pos n)) ∙ f)
 
-  near : (i : ℤ) (k : ℕ) → Near i k
+  pub near : (i : ℤ) (k : ℕ) → Near i k
   near i zero = apart refl
   near i (suc k) = near-step i k (ℤ-discrete i m) (near (sucℤ i) k)
 
@@ -122,7 +122,7 @@ over-recent : (p : List Bool) (n r : ℕ) (i : ℤ) → i +ℤ pos n ≡ pos (le
 over-recent p n r i e = over-at p n r i e ∙ ap (λ z. z ++ (false ∷ replicate r true)) (from-end p i n e)
 
 -- the window of width k with n outcomes before the miss and r after it
-over-width : (p : List Bool) (k n r : ℕ) (i : ℤ) → k ≡ n + suc r → i +ℤ pos n ≡ pos (length p) → window (around (p ++ false ∷ [])) i k ≡ recent p n ++ (false ∷ replicate r true)
+pub over-width : (p : List Bool) (k n r : ℕ) (i : ℤ) → k ≡ n + suc r → i +ℤ pos n ≡ pos (length p) → window (around (p ++ false ∷ [])) i k ≡ recent p n ++ (false ∷ replicate r true)
 over-width p k n r i e f = ap (λ z. window (around (p ++ false ∷ [])) i z) e ∙ over-recent p n r i f
 
 -- One more miss under AnyHit(x, k): of all windows over the miss, the one that ends at it has the fewest hits.

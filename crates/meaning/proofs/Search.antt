@@ -15,7 +15,7 @@ use Rattle.meaning.specs.Holds.{Holds}
 use Rattle.meaning.specs.Kept.{Kept}
 use Rattle.meaning.specs.Sets.{KeptBy, ruleAt}
 use Rattle.meaning.specs.Test.{every, windowTest, keptTest, keptByTest}
-use Rattle.meaning.proofs.Decide.{holds-iff, kept-iff, every-at, every-from}
+use Rattle.meaning.proofs.Decide.{and-T, T-of, holds-iff, kept-iff, every-at, every-from}
 use Rattle.meaning.proofs.SetLaws.{kept-by-hit}
 
 -- a test that fails somewhere below n fails at some number
@@ -28,6 +28,15 @@ find-false (suc n) f h = go (f n) refl (find-false n f)
     go true e r =
         let (j, l, g) = r (λ t. h (subst (λ z. T (z && every n f)) (sym e) t)) in
         (j, omega arith, g)
+
+-- and the least such number is one before which it doesn't
+pub least-false : (n : ℕ) (f : ℕ → Bool) → (T (every n f) → ⊥) → (j : ℕ) × (j < n) × (T (f j) → ⊥) × ((i : ℕ) → i < j → T (f i))
+least-false zero f h = absurd (h tt)
+least-false (suc n) f h = go (every n f) refl (least-false n f)
+  where
+    go : (b : Bool) → every n f ≡ b → ((T (every n f) → ⊥) → (j : ℕ) × (j < n) × (T (f j) → ⊥) × ((i : ℕ) → i < j → T (f i))) → (j : ℕ) × (j < suc n) × (T (f j) → ⊥) × ((i : ℕ) → i < j → T (f i))
+    go true e r = let t = T-of (every n f) e in (n, omega arith, λ g. h (and-T (f n) (every n f) .1 (g, t)), every-at n f t)
+    go false e r = let (j, l, g, b) = r (λ t. subst (λ z. T z) e t) in (j, omega arith, g, b)
 
 pub kept-by-iff : (s : LimitSet) (p : List Bool) → T (keptByTest s p) ↔ KeptBy s p
 kept-by-iff s p = (

@@ -27,7 +27,7 @@ misses-replicate : (k : ℕ) → misses (replicate k true) ≡ zero
 misses-replicate zero = refl
 misses-replicate (suc k) = misses-replicate k
 
-all-hits-hold : (w : ℕ) (l : Rule) → RuleAllowed w l → Holds l (replicate (width l) true)
+pub all-hits-hold : (w : ℕ) (l : Rule) → RuleAllowed w l → Holds l (replicate (width l) true)
 all-hits-hold w (AnyHit x k) (a, b, c) = omega (arith, hits-replicate k)
 all-hits-hold w (RowHit x k) (a, b, c) = run-hits x k c
 all-hits-hold w (AnyMiss x k) (a, b, c) = omega (arith, misses-replicate k)

@@ -7,25 +7,31 @@ use native.Mathlib.Decide.{decLt}
 use native.Mathlib.Omega.{arith}
 use lib.Dec.{T, T-not, leb, ltb, leb→le, ltb→lt}
 use lib.ListN.{length, take, replicate}
+use lib.IntN.{ℤ, pos, negsuc, natAbs, _+ℤ_, _-ℤ_}
+use lib.Signed.{ltZ}
 use Rattle.patterns.specs.Number.{code}
 use Rattle.patterns.specs.Order.{NoLater, shorter}
 use Rattle.patterns.proofs.Codes.{no-later-code}
 use Rattle.meaning.specs.declared.LimitSet.{LimitSet}
+use Rattle.meaning.specs.Limit.{Rule, width}
 use Rattle.meaning.specs.Sets.{zeroLimit, ruleAt, KeptBy, LostAt, Panic}
+use Rattle.meaning.specs.Broken.{jobAt, BrokenFrom, LostFrom}
 use Rattle.meaning.specs.Covers.{Between, FirstBetween}
-use Rattle.meaning.specs.Test.{every, keptTest, keptByTest}
-use Rattle.meaning.proofs.Decide.{and-T, or-case, every-at, kept-iff}
+use Rattle.meaning.specs.Test.{every, holdsTest, windowTest, keptTest, keptByTest}
+use Rattle.meaning.proofs.Decide.{and-T, or-case, every-at, holds-iff, kept-iff}
 use Rattle.meaning.proofs.Search.{kept-by-iff}
+use Rattle.meaning.proofs.Places.{same-place}
+use Rattle.meaning.proofs.Earliest.{earliest-tested}
 
 pub data Row : Type 0 where
   kept : LimitSet → List Bool → Row
-  lost : LimitSet → List Bool → (job limit : ℕ) → Row
+  lost : LimitSet → List Bool → (job limit : ℕ) → (first : ℤ) → Row
   panic : LimitSet → List Bool → Row
   between : LimitSet → LimitSet → List Bool → Row
 
 abbrev pub Holds : Row → Type 0
 Holds (kept s p) = KeptBy s p
-Holds (lost s p job limit) = LostAt s p job limit
+Holds (lost s p job limit first) = LostFrom s p job limit first
 Holds (panic s p) = Panic s p
 Holds (between a b p) = FirstBetween a b p
 
@@ -39,6 +45,13 @@ lostTest s p j i =
     every j (λ n. keptByTest s (take n p))
     && (ltb i (s .count) && (not (keptTest (ruleAt s i) (take j p)) && every i (λ n. keptTest (ruleAt s n) (take j p))))
 
+-- of the windows that the test of kept looks at, counted from one width before the pattern, the one from job first on fails and none before it
+abbrev fromTest : Rule → List Bool → ℤ → Bool
+fromTest l p first =
+    let j = natAbs (first +ℤ pos (width l) -ℤ pos 1) in
+    let said = jobAt (pos j -ℤ pos (width l)) in
+    (not (ltZ first said) && not (ltZ said first)) && (holdsTest l (replicate (width l) true) && (not (windowTest l p j) && every j (windowTest l p)))
+
 abbrev betweenTest : LimitSet → LimitSet → List Bool → Bool
 betweenTest a b p = keptByTest a p && not (keptByTest b p)
 
@@ -48,7 +61,7 @@ firstTest a b p = every (suc (length p)) (λ n. everyPattern n (λ q. not (betwe
 
 abbrev test : Row → Bool
 test (kept s p) = keptByTest s p
-test (lost s p job limit) = lostTest s p job limit
+test (lost s p job limit first) = lostTest s p job limit && fromTest (ruleAt s limit) (take job p) first
 test (panic s p) = keptByTest s p && not (keptByTest s (p ++ false ∷ []))
 test (between a b p) = betweenTest a b p && firstTest a b p
 
@@ -73,6 +86,20 @@ lost-holds s p j i t =
       lowest = λ n h. kept-iff (ruleAt s n) (take j p) .0 (every-at i (λ n. keptTest (ruleAt s n) (take j p)) before n h);
     }
 
+from-holds : (l : Rule) (p : List Bool) (first : ℤ) → T (fromTest l p first) → BrokenFrom l p first
+from-holds l p first t =
+    let k = width l in
+    let j = natAbs (first +ℤ pos k -ℤ pos 1) in
+    let said = jobAt (pos j -ℤ pos k) in
+    let (same, t₂) = and-T (not (ltZ first said) && not (ltZ said first)) _ .0 t in
+    let (after, before) = and-T (not (ltZ first said)) _ .0 same in
+    let (hits, t₃) = and-T (holdsTest l (replicate k true)) _ .0 t₂ in
+    let (fails, none) = and-T (not (windowTest l p j)) _ .0 t₃ in (
+      pos j -ℤ pos k,
+      earliest-tested l p (holds-iff l (replicate k true) .0 hits) j (T-not (windowTest l p j) fails) (every-at j (windowTest l p) none),
+      same-place first said (λ h. T-not (ltZ first said) after (h .lt)) (λ h. T-not (ltZ said first) before (h .lt)),
+    )
+
 module _ (a b : LimitSet) (p : List Bool) (t : T (firstTest a b p)) where
   none-earlier : (q : List Bool) → Between a b q → NoLater p q
   none-earlier q (ka, nb) =
@@ -89,7 +116,9 @@ module _ (a b : LimitSet) (p : List Bool) (t : T (firstTest a b p)) where
 
 holds : (r : Row) → T (test r) → Holds r
 holds (kept s p) t = kept-by-iff s p .0 t
-holds (lost s p j i) t = lost-holds s p j i t
+holds (lost s p j i f) t =
+    let (at, from) = and-T (lostTest s p j i) _ .0 t in
+    (lost-holds s p j i at, from-holds (ruleAt s i) (take j p) f from)
 holds (panic s p) t =
     let (k, n) = and-T (keptByTest s p) _ .0 t in
     record { kept = kept-by-iff s p .0 k; miss-loses = not-kept s (p ++ false ∷ []) n }
@@ -144,17 +173,19 @@ seven-then-three = i ∷ i ∷ i ∷ i ∷ i ∷ i ∷ i ∷ o ∷ o ∷ o ∷ [
 abbrev pub rows : List Row
 rows =
     kept (any-hit 2 4) mixed
-    ∷ lost (any-hit 1 2) mixed 4 0
+    ∷ lost (any-hit 1 2) mixed 4 0 (pos 3)
     ∷ kept (any-hit 3 10) (spread ++ o ∷ o ∷ o ∷ o ∷ [])
-    ∷ lost (any-hit 3 10) (spread ++ o ∷ o ∷ o ∷ o ∷ o ∷ []) 15 0
+    ∷ lost (any-hit 3 10) (spread ++ o ∷ o ∷ o ∷ o ∷ o ∷ []) 15 0 (pos 6)
     ∷ kept (row-hit 4 10) seven-then-three
     ∷ panic (row-hit 4 10) seven-then-three
     ∷ between (any-miss 2 5) (any-miss 3 7) (o ∷ o ∷ i ∷ i ∷ i ∷ o ∷ o ∷ [])
     ∷ between (any-miss 3 7) (any-miss 2 5) (o ∷ o ∷ o ∷ [])
     ∷ kept (row-miss 2) (o ∷ [])
     ∷ panic (row-miss 2) (o ∷ [])
-    ∷ lost (row-miss 2) (o ∷ o ∷ []) 2 0
-    ∷ lost (row-hit 2 5) (o ∷ o ∷ o ∷ []) 3 0
+    ∷ lost (row-miss 2) (o ∷ o ∷ []) 2 0 (pos 1)
+    ∷ lost (row-hit 2 5) (o ∷ o ∷ o ∷ []) 3 0 (pos 0)
+    ∷ lost (any-miss 2 5) (o ∷ o ∷ o ∷ i ∷ i ∷ i ∷ i ∷ []) 3 0 (negsuc 0)
+    ∷ lost (any-hit 12 12) (o ∷ []) 1 0 (negsuc 9)
     ∷ []
 
 pub rows-hold : All rows

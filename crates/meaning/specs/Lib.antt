@@ -4,5 +4,6 @@ pub mod Window
 pub mod Holds
 pub mod Kept
 pub mod Sets
+pub mod Broken
 pub mod Covers
 pub mod Test
