@@ -3,7 +3,9 @@ pub mod Histories
 pub mod Bits
 pub mod Runs
 pub mod Turns
+pub mod Passed
 pub mod MissLaws
 pub mod Walked
 pub mod Blocking
+pub mod Reaching
 pub mod OneResult

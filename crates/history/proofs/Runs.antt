@@ -5,10 +5,12 @@ use mathlib.Core.List.{List, [], _∷_, _++_, reverse, reverse-cons, reverse-app
 use Prim.Native.Nat.{ℕ, zero, suc, _≤_, _<_}
 use native.Mathlib.Omega.{arith}
 use native.Mathlib.Numerals.{add-one}
+use lib.Dec.{T}
 use lib.ListN.{replicate, replicate-append-replicate}
 use Rattle.meaning.specs.Holds.{hits, Run}
 use Rattle.meaning.specs.Test.{startsWith, hasRun}
 use Rattle.meaning.proofs.MissMore.{hits-append}
+use Rattle.meaning.proofs.Decide.{T-true, not-T-false, run-iff}
 
 pub hits-reverse : (w : List Bool) → hits (reverse w) ≡ hits w
 hits-reverse [] = refl
@@ -18,7 +20,7 @@ hits-reverse (false ∷ w) = omega (arith, ap hits (reverse-cons false w), hits-
 replicate-snoc : (n : ℕ) (b : Bool) → replicate n b ++ b ∷ [] ≡ replicate (suc n) b
 replicate-snoc n b = replicate-append-replicate n 1 b ∙ ap (λ z. replicate z b) (add-one n)
 
-reverse-replicate : (n : ℕ) (b : Bool) → reverse (replicate n b) ≡ replicate n b
+pub reverse-replicate : (n : ℕ) (b : Bool) → reverse (replicate n b) ≡ replicate n b
 reverse-replicate zero b = refl
 reverse-replicate (suc n) b = reverse-cons b (replicate n b) ∙ ap (λ z. z ++ b ∷ []) (reverse-replicate n b) ∙ replicate-snoc n b
 
@@ -34,9 +36,27 @@ run-reverse x w (a, b, e) = (
 pub run-unreverse : (x : ℕ) (w : List Bool) → Run x (reverse w) → Run x w
 run-unreverse x w r = subst (λ z. Run x z) (reverse-reverse w) (run-reverse x (reverse w) r)
 
+pub row-reverse : (x : ℕ) (w : List Bool) → hasRun x (reverse w) ≡ hasRun x w
+row-reverse x w = same (hasRun x (reverse w)) (hasRun x w) there back
+  where
+    same : (a b : Bool) → (T a → T b) → (T b → T a) → a ≡ b
+    same true b f g = sym (T-true b (f tt))
+    same false b f g = sym (not-T-false b g)
+
+    there : T (hasRun x (reverse w)) → T (hasRun x w)
+    there t = run-iff x w .1 (run-unreverse x w (run-iff x (reverse w) .0 t))
+
+    back : T (hasRun x w) → T (hasRun x (reverse w))
+    back t = run-iff x (reverse w) .1 (run-reverse x w (run-iff x w .0 t))
+
 run-zero : (w : List Bool) → hasRun zero w ≡ true
 run-zero [] = refl
 run-zero (b ∷ w) = refl
+
+-- a row of no hits stands everywhere
+pub row-some : (x : ℕ) (w : List Bool) → hasRun x w ≡ false → 0 < x
+row-some zero w e = absurd (false≢true (sym e ∙ run-zero w))
+row-some (suc x) w e = omega arith
 
 -- misses at the start belong to no run
 pub run-after-misses : (x n : ℕ) (w : List Bool) → hasRun x (replicate n false ++ w) ≡ hasRun x w

@@ -1,3 +1,4 @@
 pub mod History
 pub mod MayMiss
 pub mod Machine
+pub mod Reaches

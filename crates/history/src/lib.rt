@@ -1,8 +1,9 @@
 // The history machine of a set: its state is the last outcomes in a number, the newest in the low bit.
 // A hit is always possible; whether a miss is, this crate says from the history alone, limit by limit.
-// How long a history has to be for a limit, `reach` says.
+// How long a history has to be for a limit, `reach` says, and how far back the window begins that a miss breaks first, `broken_reach`.
 ghost use mathlib.Core.Path.{_≡_};
-ghost use Prim.Native.Nat.{_+_, _-_, _%_, _^_, _≤_, _<_};
+ghost use mathlib.Core.Bool.{true, false, cond};
+ghost use Prim.Native.Nat.{ℕ, _+_, _-_, _%_, _^_, _≤_, _<_};
 ghost use lib.Dec.{leb};
 ghost use Rattle.meaning.specs.Longest.{longest};
 ghost use Rattle.meaning.specs.Limit.{Allowed, ruleOf, width};
@@ -11,6 +12,7 @@ ghost use Rattle.meaning.specs.Sets.{SetAllowed};
 ghost use Rattle.meaning.specs.Test.{hasRun};
 ghost use Rattle.history.specs.History.{shifted, newest};
 ghost use Rattle.history.specs.MayMiss.{mayMissUnder, mayMiss, Blocks};
+ghost use Rattle.history.specs.Reaches.{Reaches};
 use meaning::Limit;
 use meaning::LimitSet;
 
@@ -129,4 +131,47 @@ pub fn reach(limit: Limit) -> usize
         return (limit.x - 1) as usize;
     }
     (limit.k - 1) as usize
+}
+
+// The length of a run of hits after one more outcome: a miss ends it.
+fn run_after(run: u8, hit: bool) -> u8
+    requires { ⌜ run < 255 ⌝ }
+    ensures { λ r. ⌜ r ≡ cond hit (run + 1) 0 ⌝ }
+{
+    if hit {
+        return run + 1;
+    }
+    0
+}
+
+// How many of the newest outcomes, n at most, have no x hits in a row among them: a step for each outcome, the newest first.
+fn before_row(history: u16, n: u8, x: u8) -> u8
+    requires { ⌜ 0 < x ⌝ }
+    ensures { λ r. ⌜ (r ≤ n) × (hasRun x (newest r history) ≡ false) × ((a : ℕ) → r < a → a ≤ n → hasRun x (newest a history) ≡ true) ⌝ }
+{
+    let mut rest = history;
+    let mut run = 0;
+    let mut passed = 0;
+    while passed < n {
+        run = run_after(run, rest % 2 == 1);
+        if x <= run {
+            return passed;
+        }
+        rest /= 2;
+        passed += 1;
+    }
+    passed
+}
+
+// How many outcomes before a miss that can't follow lie in the earliest window that it breaks.
+pub fn broken_reach(limit: Limit, history: u16) -> usize
+    requires { ⌜ Allowed longest limit × (mayMissUnder (ruleOf limit) history ≡ false) ⌝ }
+    ensures { λ r. ⌜ Reaches (ruleOf limit) history r ⌝ }
+{
+    let x = limit.x;
+    let k = limit.k;
+    if limit.kind == 1 {
+        return before_row(history, k - 1, x) as usize;
+    }
+    reach(limit)
 }

@@ -22,7 +22,7 @@ length-window s i zero = refl
 length-window s i (suc k) = ap suc (length-window s (sucℤ i) k)
 
 -- at most x misses of k are at least k - x hits
-any-miss-hit : (x k : ℕ) (w : List Bool) → x ≤ k → length w ≡ k → Holds (AnyMiss x k) w ↔ Holds (AnyHit (k - x) k) w
+pub any-miss-hit : (x k : ℕ) (w : List Bool) → x ≤ k → length w ≡ k → Holds (AnyMiss x k) w ↔ Holds (AnyHit (k - x) k) w
 any-miss-hit x k w h e = let g = hits-misses w in (λ m. omega arith, λ m. omega arith)
 
 no-hits : (w : List Bool) → hits w ≡ zero → w ≡ replicate (length w) false
