@@ -9,3 +9,4 @@ pub mod Walked
 pub mod Blocking
 pub mod Reaching
 pub mod OneResult
+pub mod Broken

@@ -19,7 +19,7 @@ use Rattle.meaning.specs.Kept.{Kept}
 use Rattle.meaning.specs.Sets.{SetAllowed, KeptBy, LostAt, ruleAt}
 use Rattle.meaning.specs.Broken.{EarliestBroken, jobAt, BrokenFrom, LostFrom}
 use Rattle.meaning.specs.Test.{every, windowTest, keptTest}
-use Rattle.meaning.proofs.Places.{same-place, earlier-by, steps-from, place-counted, place-before}
+use Rattle.meaning.proofs.Places.{same-place, earlier-by, steps-swap, steps-from, place-counted, place-before}
 use Rattle.meaning.proofs.MissMore.{Near, apart, over, near, over-width}
 use Rattle.meaning.proofs.Decide.{holds-iff, kept-iff, every-at, neg-back, window-early}
 use Rattle.meaning.proofs.Search.{least-false}
@@ -114,10 +114,7 @@ module _ (w : ℕ) (s : LimitSet) (ok : SetAllowed w s) (p : List Bool) (j i : �
       let kept : Kept l before = lost .shortest (j - 1) (omega (arith, lost-after)) i (lost-of-the-set s p j i lost) in
       let (n, h, f) = broken-over l before kept a (subst (λ z. Holds l (window (around z) a (width l)) → ⊥) losing-miss (b .broken)) in
       let long : length before + 1 ≡ j = omega (arith, length-take (j - 1) p, lost-after, lost-within s p j i lost) in
-      (n, h, ap (λ z. z +ℤ pos n) e ∙ swapped a n ∙ ap (λ z. z +ℤ pos 1) f ∙ ap pos long)
-    where
-      swapped : (a : ℤ) (n : ℕ) → a +ℤ pos 1 +ℤ pos n ≡ a +ℤ pos n +ℤ pos 1
-      swapped a n = let e : 1 + n ≡ n + 1 = omega arith in +ℤ-assoc a (pos 1) (pos n) ∙ ap (λ z. a +ℤ pos z) e ∙ sym (+ℤ-assoc a (pos n) (pos 1))
+      (n, h, ap (λ z. z +ℤ pos n) e ∙ steps-swap a (pos 1) (pos n) ∙ ap (λ z. z +ℤ pos 1) f ∙ ap pos long)
 
   -- and there is such a job
   pub lost-from : (first : ℤ) × LostFrom s p j i first

@@ -39,6 +39,9 @@ earlier-by (negsuc a) (negsuc b) h =
     let e : suc a - suc (suc d) ≡ b = omega arith in
     (d, ap (λ z. cond z (negsuc (suc a - suc (suc d))) (pos (suc d - suc a))) (lt-ltb (suc d) (suc a) (omega arith)) ∙ ap negsuc e)
 
+pub steps-swap : (a b c : ℤ) → a +ℤ b +ℤ c ≡ a +ℤ c +ℤ b
+steps-swap a b c = +ℤ-assoc a b c ∙ ap (λ z. a +ℤ z) (+ℤ-comm b c) ∙ sym (+ℤ-assoc a c b)
+
 -- the same number of steps from the same place
 pub steps-from : (a : ℤ) (m n : ℕ) → a +ℤ pos m ≡ a +ℤ pos n → m ≡ n
 steps-from a m n e =

@@ -1,2 +1,3 @@
+pub mod Jobs
 pub mod Turns
 pub mod OneResult

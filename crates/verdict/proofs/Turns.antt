@@ -1,4 +1,4 @@
--- What a turn does to a pattern that stands so far: where it is kept, one outcome more stands, and where it is lost, the pattern is lost at that job by that limit. Assumes nothing.
+-- What a turn does to a pattern that stands so far: where it is kept, one outcome more stands, and where it is lost, the pattern is lost at that job by that limit, and what is then said of the window is so. Assumes nothing.
 use mathlib.Core.Path.{_≡_, refl, sym, ap, _∙_, subst}
 use mathlib.Core.Bool.{Bool, true, false}
 use mathlib.Core.List.{List, [], _∷_, _++_}
@@ -6,21 +6,29 @@ use Prim.Native.Nat.{ℕ, _+_, _-_, _^_, _<_, _≤_}
 use native.Mathlib.Numerals.{add-one}
 use native.Mathlib.Omega.{arith}
 use lib.Dec.{T}
-use lib.ListN.{length, getD, take}
+use lib.ListN.{length, getD, take, length-take}
 use lib.Seq.{take-take, take-suc, take-all}
+use lib.IntN.{pos, negℤ, _-ℤ_}
+use Rattle.layout.specs.Refusal.{first}
 use Rattle.meaning.specs.declared.LimitSet.{LimitSet}
 use Rattle.meaning.specs.Kept.{Kept}
+use Rattle.meaning.specs.Broken.{EarliestBroken, BrokenFrom}
 use Rattle.meaning.specs.Longest.{longest}
 use Rattle.meaning.specs.Sets.{SetAllowed, KeptBy, LostAt, ruleAt}
 use Rattle.meaning.proofs.Decide.{T-of}
+use Rattle.meaning.proofs.Places.{steps-swap}
 use Rattle.meaning.proofs.SetLaws.{kept-by-hit, kept-by-take, kept-by-empty}
 use Rattle.history.specs.History.{historyOf, pushed}
 use Rattle.history.specs.MayMiss.{Blocks, mayMissUnder}
+use Rattle.history.specs.Reaches.{Reaches}
 use Rattle.history.proofs.Histories.{history-push, history-start}
 use Rattle.history.proofs.MissLaws.{decides-under, may-miss-kept}
 use Rattle.history.proofs.Blocking.{none-blocks}
+use Rattle.history.proofs.Broken.{reaches-earliest}
+use Rattle.verdict.specs.declared.Judgement.{Judgement}
+use Rattle.verdict.specs.Judge.{JudgedBy}
 use Rattle.verdict.specs.declared.Turn.the-variants as turn
-use Rattle.verdict.specs.Turn.{Turned, Stands}
+use Rattle.verdict.specs.Turn.{Turned, SaysLost, Stands}
 
 abbrev m : ℕ
 m = longest - 1
@@ -70,6 +78,25 @@ module _ (s : LimitSet) (ok : SetAllowed longest s) (p : List Bool) (i h : ℕ) 
       lowest = λ j k. decided j (omega arith) (T-of _ (blocks .before j k));
     }
 
-  pub turned-lost : (o : Bool) → getD p i false ≡ o → (n : ℕ) → Turned s h o (turn.Lost n) → LostAt s p (i + 1) n
-  turned-lost true e n t = absurd t
-  turned-lost false e n (blocks, lt) = lost-here e n blocks lt
+    -- place i is job i + 1, and the window begins so many places before it
+    said-from : n < s .count → (back : ℕ) → Reaches (ruleAt s n) h back → BrokenFrom (ruleAt s n) (take (i + 1) p) (pos (i + 1) -ℤ pos back)
+    said-from lt back r =
+        let rule = ruleAt s n in
+        let q = take i p in
+        let e : length q ≡ i = omega (arith, length-take i p) in
+        let b = reaches-earliest m q rule (ok .each n lt .rule-allowed) back (stands .kept n lt) (subst (λ z. Reaches rule z back) (stands .history) r) in (
+          pos i -ℤ pos back,
+          subst (λ z. EarliestBroken rule z (pos i -ℤ pos back)) (sym (next-is false miss)) (subst (λ z. EarliestBroken rule (q ++ false ∷ []) (pos z -ℤ pos back)) e b),
+          steps-swap (pos i) (pos 1) (negℤ (pos back)),
+        )
+
+  pub turned-lost : (o : Bool) → getD p i false ≡ o → (n : ℕ) → Turned s h o (turn.Lost n) → (r : Judgement) → SaysLost s h i n r → JudgedBy [] s p r
+  unfolding first
+  turned-lost true e n t r q = absurd t
+  turned-lost false e n (blocks, lt) r (back, b, q) =
+      rw q (record { refusal = refl; verdict = (lost-here e n blocks lt, said-from e n blocks lt back b) })
+
+-- a turn is lost where a limit of the set blocks it
+pub turned-blocks : (s : LimitSet) (h : ℕ) (o : Bool) (n : ℕ) → Turned s h o (turn.Lost n) → Blocks s h n × (n < s .count)
+turned-blocks s h true n t = absurd t
+turned-blocks s h false n t = t

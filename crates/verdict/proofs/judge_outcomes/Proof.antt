@@ -8,7 +8,7 @@ use Rattle.layout.specs.Bytes.{byteAt}
 use Rattle.layout.specs.Refusal.{first}
 use Rattle.patterns.specs.Outcome.{outcome, outcomes}
 use Rattle.verdict.specs.Turn.{Stands, Turned}
-use Rattle.verdict.proofs.Turns.{stands-first, stands-last, turned-kept, turned-lost}
+use Rattle.verdict.proofs.Turns.{stands-first, stands-last, turned-kept, turned-lost, turned-blocks}
 use Rattle.verdict.proofs.judge_outcomes.Statement.{statement}
 use Rattle.verdict.proofs.judge_outcomes.Tie as tie
 
@@ -19,13 +19,13 @@ abbrev μ-loop : tie.MeasureT-loop
 μ-loop set pattern history₀ i₀ history i = length pattern - i
 
 loop-holds : tie.Need-loop-holds Inv-loop μ-loop
-loop-holds c = (omega arith, stands-first (c .before .args .set) (outcomes (c .before .args .pattern .now)) (c .before .pre))
+loop-holds c = (omega arith, stands-first (c .before .args .set) (outcomes (c .before .args .pattern .now)) (c .before .pre .0))
 
 shared-slice-read-take-turn : tie.Need-shared-slice-read-take-turn Inv-loop μ-loop
 shared-slice-read-take-turn c = search needs
 
 take-turn-requires : tie.Need-take-turn-requires Inv-loop μ-loop
-take-turn-requires c κs = (c .before .before .before .before .pre, c .before .before .loop .inv .1 .within)
+take-turn-requires c κs = (c .before .before .before .before .pre .0, c .before .before .loop .inv .1 .within)
 
 enum-known-turned : tie.Need-enum-known-turned Inv-loop μ-loop
 enum-known-turned c = search needs
@@ -33,22 +33,23 @@ enum-known-turned c = search needs
 enum-known-turned-2 : tie.Need-enum-known-turned-2 Inv-loop μ-loop
 enum-known-turned-2 c = search needs
 
-add-t13 : tie.Need-add-t13 Inv-loop μ-loop
-add-t13 c = search needs
+lost-by-requires : tie.Need-lost-by-requires Inv-loop μ-loop
+lost-by-requires c κs =
+    let l = c .before .before .before .before .before .before in
+    let s = l .before .before in
+    let o = outcome (byteAt (s .args .pattern .now) (l .loop .i)) in
+    let (blocks, lt) = turned-blocks (s .args .set) (l .loop .history) o _ (subst (λ z. Turned (s .args .set) (l .loop .history) o z) (c .before .turned2 .given .1) (c .before .before .before .take-turn .ensures)) in
+    (s .pre .0, blocks, lt, omega (arith, s .pre .1))
 
 returns : tie.Need-returns Inv-loop μ-loop
-unfolding first
 returns c =
-    let l = c .before .before .before .before .before .before in
+    let t = c .before .before .before .before .take-turn in
+    let l = c .before .before .before .before .before .before .before in
     let s = l .before .before in
     let p = s .args .pattern .now in
     let o = outcome (byteAt p (l .loop .i)) in
-    let t = c .before .before .before .take-turn in
-    record {
-      refusal = refl;
-      verdict = turned-lost (s .args .set) (s .pre) (outcomes p) (l .loop .i) (l .loop .history) (omega (arith, length-map p outcome)) (l .loop .inv .1) o (List·getD-map outcome p (l .loop .i) 0) _
-          (subst (λ z. Turned (s .args .set) (l .loop .history) o z) (c .before .turned2 .given .1) (t .ensures));
-    }
+    turned-lost (s .args .set) (s .pre .0) (outcomes p) (l .loop .i) (l .loop .history) (omega (arith, length-map p outcome)) (l .loop .inv .1) o (List·getD-map outcome p (l .loop .i) 0) _
+    (subst (λ z. Turned (s .args .set) (l .loop .history) o z) (c .before .before .turned2 .given .1) (t .ensures)) (c .lost-by .result) (c .lost-by .ensures)
 
 add-i : tie.Need-add-i Inv-loop μ-loop
 add-i c = search needs
@@ -64,7 +65,7 @@ loop-again c =
     let o = outcome (byteAt p (l .loop .i)) in
     let t = c .before .before .before .take-turn in (
       omega arith,
-      turned-kept (s .args .set) (s .pre) (outcomes p) (l .loop .i) (l .loop .history) (omega (arith, length-map p outcome)) (l .loop .inv .1) o (List·getD-map outcome p (l .loop .i) 0) _
+      turned-kept (s .args .set) (s .pre .0) (outcomes p) (l .loop .i) (l .loop .history) (omega (arith, length-map p outcome)) (l .loop .inv .1) o (List·getD-map outcome p (l .loop .i) 0) _
           (subst (λ z. Turned (s .args .set) (l .loop .history) o z) (c .before .turned .given .1) (t .ensures)),
     )
 
@@ -89,7 +90,7 @@ judge-outcomes-spec =
     take-turn-requires
     enum-known-turned
     enum-known-turned-2
-    add-t13
+    lost-by-requires
     returns
     add-i
     loop-less
