@@ -29,10 +29,7 @@ fn judge_packed(set: LimitSet, log: &[u8], count: usize) -> Judgement
                 history = next;
             }
             Turn::Lost { limit } => {
-                return Judgement::Lost {
-                    job: i as u64 + 1,
-                    limit,
-                };
+                return verdict::lost_by(set, history, i, limit);
             }
         }
         i += 1;

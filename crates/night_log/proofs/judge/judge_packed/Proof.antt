@@ -5,7 +5,7 @@ use native.Mathlib.Omega.{arith}
 use borrow.Author.Needs.{needs}
 use Rattle.layout.specs.Refusal.{first}
 use Rattle.verdict.specs.Turn.{Stands, Turned}
-use Rattle.verdict.proofs.Turns.{stands-first, stands-last, turned-kept, turned-lost}
+use Rattle.verdict.proofs.Turns.{stands-first, stands-last, turned-kept, turned-lost, turned-blocks}
 use Rattle.night_log.specs.Bytes.{outcomesOf}
 use Rattle.night_log.proofs.Outcomes.{outcomes-length, outcomes-at}
 use Rattle.night_log.proofs.judge.judge_packed.Statement.{statement}
@@ -32,23 +32,25 @@ enum-known-turned c = search needs
 enum-known-turned-2 : tie.Need-enum-known-turned-2 Inv-loop μ-loop
 enum-known-turned-2 c = search needs
 
-add-t11 : tie.Need-add-t11 Inv-loop μ-loop
-add-t11 c = search needs
+lost-by-requires : tie.Need-lost-by-requires Inv-loop μ-loop
+lost-by-requires c κs =
+    let t = c .before .before .before in
+    let o = t .before .outcome-in in
+    let l = t .before .before .before in
+    let s = l .before .before in
+    let (blocks, lt) = turned-blocks (s .args .set) (l .loop .history) (o .result) _ (subst (λ z. Turned (s .args .set) (l .loop .history) (o .result) z) (c .before .turned2 .given .1) (t .take-turn .ensures)) in
+    (s .pre .0, blocks, lt, omega (arith, s .pre .2))
 
 returns : tie.Need-returns Inv-loop μ-loop
-unfolding first
 returns c =
-    let t = c .before .before .before in
+    let t = c .before .before .before .before in
     let o = t .before .outcome-in in
     let l = t .before .before .before in
     let s = l .before .before in
     let b = s .args .log .now in
     let i = l .loop .i in
-    record {
-      refusal = refl;
-      verdict = turned-lost (s .args .set) (s .pre .0) (outcomesOf b) i (l .loop .history) (omega (arith, outcomes-length b, s .pre .1)) (l .loop .inv .1) (o .result) (outcomes-at b i (omega (arith, s .pre .1)) ∙ sym (o .ensures)) _
-          (subst (λ z. Turned (s .args .set) (l .loop .history) (o .result) z) (c .before .turned2 .given .1) (t .take-turn .ensures));
-    }
+    turned-lost (s .args .set) (s .pre .0) (outcomesOf b) i (l .loop .history) (omega (arith, outcomes-length b, s .pre .1)) (l .loop .inv .1) (o .result) (outcomes-at b i (omega (arith, s .pre .1)) ∙ sym (o .ensures)) _
+    (subst (λ z. Turned (s .args .set) (l .loop .history) (o .result) z) (c .before .before .turned2 .given .1) (t .take-turn .ensures)) (c .lost-by .result) (c .lost-by .ensures)
 
 add-i : tie.Need-add-i Inv-loop μ-loop
 add-i c = search needs
@@ -91,7 +93,7 @@ judge-packed-spec =
     take-turn-requires
     enum-known-turned
     enum-known-turned-2
-    add-t11
+    lost-by-requires
     returns
     add-i
     loop-less
