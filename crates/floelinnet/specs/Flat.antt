@@ -44,6 +44,7 @@ use Rattle.floelinnet.specs.declared.FloeRowAsked.{FloeRowAsked}
 use Rattle.floelinnet.specs.declared.FloeLogOpened.{FloeLogOpened}
 use Rattle.floelinnet.specs.declared.FloeLogRead.{FloeLogRead}
 use Prim.Native.Nat.{ℕ}
+use lib.IntN.{pos}
 
 -- what an exported function promises: there is an answer that the promise of the library function behind it allows, and the record is its flat form
 abbrev pub FlatAnswer : {A R : Type 0} → (A → Type 0) → (A → R) → R → Type 0
@@ -60,11 +61,11 @@ abbrev pub flatWritten : WriteAnswer → FloeWritten
 flatWritten (written.Written length) = record { refused = 0; at = 0; length = length }
 flatWritten (written.Refused number at) = record { refused = number; at = at; length = 0 }
 
--- kept is 1 or 0, and 0 on a refusal; job and limit are 0 where nothing is lost
+-- kept is 1 or 0, and 0 on a refusal; job, limit and first are 0 where nothing is lost
 abbrev pub flatVerdict : Judgement → FloeVerdict
-flatVerdict verdict.Kept = record { refused = 0; at = 0; kept = 1; job = 0; limit = 0 }
-flatVerdict (verdict.Lost job limit) = record { refused = 0; at = 0; kept = 0; job = job; limit = limit }
-flatVerdict (verdict.Refused number at) = record { refused = number; at = at; kept = 0; job = 0; limit = 0 }
+flatVerdict verdict.Kept = record { refused = 0; at = 0; kept = 1; job = 0; limit = 0; first = pos 0 }
+flatVerdict (verdict.Lost job limit first) = record { refused = 0; at = 0; kept = 0; job = job; limit = limit; first = first }
+flatVerdict (verdict.Refused number at) = record { refused = number; at = at; kept = 0; job = 0; limit = 0; first = pos 0 }
 
 abbrev pub flatCompared : CompareAnswer → Pattern → FloeComparison
 flatCompared comparison.Covers p = record { refused = 0; at = 0; which = 0; covers = 1; length = p .length; pattern = p .outcomes }

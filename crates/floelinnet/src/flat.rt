@@ -35,13 +35,15 @@ pub(crate) fn judged(answer: verdict::Judgement) -> FloeVerdict
             kept: 1,
             job: 0,
             limit: 0,
+            first: 0,
         },
-        verdict::Judgement::Lost { job, limit } => FloeVerdict {
+        verdict::Judgement::Lost { job, limit, first } => FloeVerdict {
             refused: 0,
             at: 0,
             kept: 0,
             job,
             limit: limit as u64,
+            first,
         },
         verdict::Judgement::Refused { number, at } => FloeVerdict {
             refused: number as u64,
@@ -49,6 +51,7 @@ pub(crate) fn judged(answer: verdict::Judgement) -> FloeVerdict
             kept: 0, // what wasn't judged isn't kept
             job: 0,
             limit: 0,
+            first: 0,
         },
     }
 }

@@ -38,7 +38,7 @@ pub struct FloeWritten {
     pub length: u64,
 }
 
-// kept: 1 or 0, and 0 on a refusal.
+// kept: 1 or 0, and 0 on a refusal. first: where to look, 0 where nothing is lost.
 #[repr(C)]
 pub struct FloeVerdict {
     pub refused: u64,
@@ -46,6 +46,7 @@ pub struct FloeVerdict {
     pub kept: u64,
     pub job: u64,
     pub limit: u64,
+    pub first: i64,
 }
 
 // which: the set that is refused, 1 or 2, else 0. Places of the pattern past its length are 0.

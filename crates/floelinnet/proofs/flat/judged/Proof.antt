@@ -1,5 +1,7 @@
 -- `floelinnet::flat::judged`: each case of the answer is flattened as the definition says. Assumes nothing.
-use mathlib.Core.Path.{sym, ap}
+use mathlib.Core.Path.{_≡_, sym, ap}
+use mir.Syntax.{w64}
+use mir.Val.{toZ, ofZ}
 use borrow.Author.Needs.{needs}
 use Rattle.floelinnet.specs.Flat.{flatVerdict}
 use Rattle.floelinnet.proofs.flat.judged.Statement.{statement}
@@ -14,14 +16,17 @@ enum-known-answer c = search needs
 enum-known-answer-2 : tie.Need-enum-known-answer-2
 enum-known-answer-2 c = search needs
 
-cast-t8 : tie.Need-cast-t8
-cast-t8 c = search needs
+cast-t9 : tie.Need-cast-t9
+cast-t9 c = search needs
 
 returns : tie.Need-returns
 returns c = sym (ap flatVerdict (c .enum-told .given .1))
 
 returns-2 : tie.Need-returns-2
-returns-2 c = sym (ap flatVerdict (c .before .answer .given .1))
+returns-2 c =
+    let first = c .before .answer .given .0 .1 .1 .0 in
+    let read : toZ w64 (ofZ w64 first) ≡ first = search needs in
+    rw read (sym (ap flatVerdict (c .before .answer .given .1)))
 
 returns-3 : tie.Need-returns-3
 returns-3 c = sym (ap flatVerdict (c .before .answer2 .given .1))
@@ -29,4 +34,4 @@ returns-3 c = sym (ap flatVerdict (c .before .answer2 .given .1))
 pub judged-spec : {M : Type 1} → statement M
 judged-spec =
     tie.close
-    (tie.spec enum-told enum-known-answer enum-known-answer-2 cast-t8 returns returns-2 returns-3)
+    (tie.spec enum-told enum-known-answer enum-known-answer-2 cast-t9 returns returns-2 returns-3)
