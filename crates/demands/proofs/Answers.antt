@@ -65,7 +65,7 @@ module _ (Number : ℕ → Type 0) (rows : List Row) where
     where
       known : (r : Judgement) (n v : ℕ) → judge-says r ≡ refused n v → r ≡ judge.Refused n v
       known judge.Kept n v e = absurd (passed-not-refused e)
-      known (judge.Lost j i) n v e = absurd (passed-not-refused e)
+      known (judge.Lost j i f) n v e = absurd (passed-not-refused e)
       known (judge.Refused k u) n v e = cc
 
   pub by-built : (r : BuildAnswer) → Numbers Number rows → build-says r ≡ first rows → Refuses build.Refused Number (first rows) r

@@ -5,16 +5,19 @@ use mathlib.Core.Bool.{Bool}
 use mathlib.Core.List.{List}
 use Prim.Native.Nat.{ℕ, _≤_}
 use native.Mathlib.Omega.{arith}
+use borrow.Author.Tests.{le-ltb, ltb-false}
+use lib.IntN.{ℤ}
 use lib.ListN.{length}
 use Rattle.layout.specs.Refusal.{passed, first}
-use Rattle.layout.proofs.Rows.{and-then, from-to, both-passed as all-passed, first-append}
+use Rattle.layout.proofs.Rows.{and-then, from-to, both-passed as all-passed, passed-first, first-append, first-skip}
 use Rattle.patterns.specs.Outcome.{outcomes, outcomeRows}
 use Rattle.patterns.proofs.Outcomes.{outcomes-passed}
 use Rattle.machines.specs.Machine.{Machine}
 use Rattle.machines.specs.Canonical.{Canonical}
 use Rattle.meaning.specs.Longest.{longest}
 use Rattle.meaning.specs.declared.LimitSet.{LimitSet}
-use Rattle.meaning.specs.Sets.{KeptBy, LostAt}
+use Rattle.meaning.specs.Sets.{KeptBy}
+use Rattle.meaning.specs.Broken.{LostFrom}
 use Rattle.meaning.specs.Covers.{FirstBetween}
 use Rattle.meaning.specs.Covers as meant
 use Rattle.sets.specs.Bytes.{setOf}
@@ -22,7 +25,7 @@ use Rattle.sets.specs.Rows.{setRows}
 use Rattle.sets.specs.Read.{ReadAs}
 use Rattle.sets.specs.Write.{writeRows, WrittenAs}
 use Rattle.sets.proofs.Numbers.{set-numbers}
-use Rattle.verdict.specs.Judge.{judgeRows, JudgedAs}
+use Rattle.verdict.specs.Judge.{patternRows, judgeRows, JudgedAs}
 use Rattle.compare.specs.Compare.{packed, BothTested, both-passed, one-refused, in-turn, ComparedAs}
 use Rattle.table.specs.Bytes.{sizeOf}
 use Rattle.table.specs.Rows.{tableRows, lookRows}
@@ -79,7 +82,7 @@ floe-write-set-refuses s out out′ f (a, written, e) =
 
 pub floe-judge-refuses : (b p : List ℕ) (f : FloeVerdict) → FlatAnswer (JudgedAs longest b p) flatVerdict f → RefusesFlat JudgeNumber (first (judgeRows longest b p)) (f .refused) (f .at)
 floe-judge-refuses b p f (a, judged, e) =
-    rw e (opens-refuses JudgeNumber (judgeRows longest b p) (λ n. ⊎-elim (λ (l, h). l) (λ q. omega arith)) (judge-numbers longest b p) (verdict-opens a) (judged .refusal))
+    rw e (opens-refuses JudgeNumber (judgeRows longest b p) (λ n. ⊎-elim (λ (l, h). l) (⊎-elim (λ q. omega arith) (λ q. omega arith))) (judge-numbers longest b p) (verdict-opens a) (judged .refusal))
 
 module _ (a b : List ℕ) (f : FloeComparison) (flat : FlatAnswer (ComparedAs longest a b) flatComparison f) where
   abbrev tests : BothTested
@@ -133,11 +136,12 @@ module _ (set pattern : List ℕ) (f : FloeVerdict) (flat : FlatAnswer (JudgedAs
       tested : ((first (judgeRows longest set pattern) ≡ passed) × KeptBy (setOf set) (outcomes pattern)) ↔ Keeps set pattern
       tested = (
         λ (e, k).
-            let (a, o) = all-passed (setRows longest set) (outcomeRows pattern 0) e in
-            record { accepted = a; outcomes-are-0-and-1 = outcomes-passed pattern 0 .0 o; kept = k },
+            let (a, o) = all-passed (setRows longest set) (patternRows pattern) e in
+            let (l, p) = passed-first _ _ o in
+            record { accepted = a; not-too-long = ltb-false _ _ l; outcomes-are-0-and-1 = outcomes-passed pattern 0 .0 p; kept = k },
         λ h. (
-          first-append (setRows longest set) (outcomeRows pattern 0)
-              ∙ ap₂ and-then (h .accepted) (outcomes-passed pattern 0 .1 (h .outcomes-are-0-and-1)),
+          first-append (setRows longest set) (patternRows pattern)
+              ∙ ap₂ and-then (h .accepted) (first-skip 26 0 _ (outcomeRows pattern 0) (le-ltb _ _ (h .not-too-long)) ∙ outcomes-passed pattern 0 .1 (h .outcomes-are-0-and-1)),
           h .kept,
         ),
       )
@@ -145,8 +149,8 @@ module _ (set pattern : List ℕ) (f : FloeVerdict) (flat : FlatAnswer (JudgedAs
   pub floe-judge-kept-or-not : (f .kept ≡ 0) ⊎ (f .kept ≡ 1)
   floe-judge-kept-or-not = rw (flat .2) (kept-or-not (flat .0))
 
-  pub floe-judge-lost : (j i : ℕ) → 1 ≤ j → ((f .job ≡ j) × (f .limit ≡ i)) ↔ ((first (judgeRows longest set pattern) ≡ passed) × LostAt (setOf set) (outcomes pattern) j i)
-  floe-judge-lost j i h = Iff·trans (rw (flat .2) (lost-flat (flat .0) j i h)) (verdict-lost set pattern (flat .0) (flat .1) j i)
+  pub floe-judge-lost : (j i : ℕ) (from : ℤ) → 1 ≤ j → ((f .job ≡ j) × (f .limit ≡ i) × (f .first ≡ from)) ↔ ((first (judgeRows longest set pattern) ≡ passed) × LostFrom (setOf set) (outcomes pattern) j i from)
+  floe-judge-lost j i from h = Iff·trans (rw (flat .2) (lost-flat (flat .0) j i from h)) (verdict-lost set pattern (flat .0) (flat .1) j i from)
 
 -- The comparison.
 module _ (a b : List ℕ) (f : FloeComparison) (flat : FlatAnswer (ComparedAs longest a b) flatComparison f) where

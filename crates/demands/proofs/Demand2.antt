@@ -5,27 +5,32 @@ use mathlib.Core.Logic.{_↔_}
 use mathlib.Core.Option.{some}
 use mathlib.Core.Bool.{Bool, true, false}
 use mathlib.Core.List.{List, [], _∷_, _++_}
-use Prim.Native.Nat.{ℕ, _-_, _≤_}
+use Prim.Native.Nat.{ℕ, _-_, _≤_, _<_}
 use native.Mathlib.Omega.{arith}
+use lib.IntN.{ℤ, pos, _+ℤ_}
 use lib.ListN.{length, replicate}
 use Rattle.layout.specs.Refusal.{Row, Tested, passed, refused, first}
-use Rattle.layout.proofs.Rows.{passed-not-refused}
+use Rattle.layout.proofs.Rows.{passed-not-refused, both-passed as all-passed}
 use Rattle.patterns.specs.Outcome.{outcome, outcomes}
 use Rattle.machines.specs.Machine.{walk, Can}
 use Rattle.meaning.specs.declared.LimitSet.{LimitSet}
 use Rattle.meaning.specs.Longest.{longest}
-use Rattle.meaning.specs.Sets.{KeptBy, LostAt}
+use Rattle.meaning.specs.Limit.{width}
+use Rattle.meaning.specs.Sets.{KeptBy, ruleAt}
+use Rattle.meaning.specs.Broken.{LostFrom}
 use Rattle.meaning.specs.Covers.{FirstBetween}
 use Rattle.meaning.specs.Covers as meant
 use Rattle.meaning.proofs.Unique.{kept-not-lost, lost-job, lost-limit, first-between-unique}
+use Rattle.meaning.proofs.Earliest.{lost-from-one, lost-in-window}
 use Rattle.meaning.proofs.Witness.{first-between-short}
 use Rattle.sets.specs.Bytes.{setOf}
 use Rattle.sets.specs.Rows.{setRows}
 use Rattle.sets.proofs.Accepted.{accepted-allowed}
 use Rattle.verdict.specs.declared.Judgement.{Judgement}
 use Rattle.verdict.specs.declared.Judgement.the-variants.{Kept, Lost, Refused}
-use Rattle.verdict.specs.Judge.{judgeRows, says, Verdict, JudgedBy, JudgedAs}
+use Rattle.verdict.specs.Judge.{patternRows, judgeRows, says, Verdict, JudgedBy, JudgedAs}
 use Rattle.night_log.specs.Bytes.{outcomesOf}
+use Rattle.night_log.specs.Rows.{logRows}
 use Rattle.night_log.specs.Judge.{logJudgeRows, LogJudgedAs}
 use Rattle.compare.specs.declared.Compared.{Compared}
 use Rattle.compare.specs.declared.CompareAnswer.{CompareAnswer}
@@ -51,7 +56,7 @@ use Rattle.demands.proofs.Tables.{made-walks-kept}
 use Rattle.demands.proofs.Guarded.{answers-by-meaning, heeded-kept, kept-not-lost as guard-not-lost, hits-bring-fresh, lost-state}
 use Rattle.demands.proofs.Answers.{both-accepted}
 
--- A verdict says kept exactly when the rows before it are passed and the set keeps the outcomes, and lost at a job by a limit exactly as that is meant.
+-- A verdict says kept exactly when the rows before it are passed and the set keeps the outcomes, and lost at a job by a limit whose earliest broken window begins with a job exactly as that is meant.
 module _ (rows : List Row) (s : LimitSet) (p : List Bool) (r : Judgement) (judged : JudgedBy rows s p r) where
   judged-kept : (r ≡ Kept) ↔ ((first rows ≡ passed) × KeptBy s p)
   judged-kept = (
@@ -61,38 +66,50 @@ module _ (rows : List Row) (s : LimitSet) (p : List Bool) (r : Judgement) (judge
     where
       go : (r : Judgement) → says r ≡ passed → Verdict s p r → KeptBy s p → r ≡ Kept
       go Kept e v k = refl
-      go (Lost j i) e v k = absurd (kept-not-lost s p j i k v)
+      go (Lost j i f) e v k = absurd (kept-not-lost s p j i k (v .0))
       go (Refused n u) e v k = absurd (passed-not-refused (sym e))
 
-  judged-lost : (j i : ℕ) → (r ≡ Lost j i) ↔ ((first rows ≡ passed) × LostAt s p j i)
-  judged-lost j i = (
+  judged-lost : (j i : ℕ) (from : ℤ) → (r ≡ Lost j i from) ↔ ((first rows ≡ passed) × LostFrom s p j i from)
+  judged-lost j i from = (
     λ e. (sym (judged .refusal) ∙ ap says e, subst (Verdict s p) e (judged .verdict)),
     λ (a, l). go r (judged .refusal ∙ a) (judged .verdict) l,
   )
     where
-      go : (r : Judgement) → says r ≡ passed → Verdict s p r → LostAt s p j i → r ≡ Lost j i
-      go Kept e v l = absurd (kept-not-lost s p j i v l)
-      go (Lost k m) e v l =
-          let same-job = lost-job s p k m j i v l in
-          let same-limit = lost-limit s p k m j i v l in
+      go : (r : Judgement) → says r ≡ passed → Verdict s p r → LostFrom s p j i from → r ≡ Lost j i from
+      go Kept e v l = absurd (kept-not-lost s p j i v (l .0))
+      go (Lost k m f) e v l =
+          let same-job = lost-job s p k m j i (v .0) (l .0) in
+          let same-limit = lost-limit s p k m j i (v .0) (l .0) in
+          let same-window = lost-from-one s p k m f j i from v l in
           cc
       go (Refused n u) e v l = absurd (passed-not-refused (sym e))
 
--- The verdict on a pattern: the set is accepted and the outcomes are 0 and 1.
+-- The verdict on a pattern: the set is accepted, and the outcomes are 0 and 1 and not too many.
 module _ (set pattern : List ℕ) (r : Judgement) (judged : JudgedAs longest set pattern r) where
   pub verdict-kept : (r ≡ Kept) ↔ ((first (judgeRows longest set pattern) ≡ passed) × KeptBy (setOf set) (outcomes pattern))
   verdict-kept = judged-kept (judgeRows longest set pattern) (setOf set) (outcomes pattern) r judged
 
-  pub verdict-lost : (j i : ℕ) → (r ≡ Lost j i) ↔ ((first (judgeRows longest set pattern) ≡ passed) × LostAt (setOf set) (outcomes pattern) j i)
+  pub verdict-lost : (j i : ℕ) (from : ℤ) → (r ≡ Lost j i from) ↔ ((first (judgeRows longest set pattern) ≡ passed) × LostFrom (setOf set) (outcomes pattern) j i from)
   verdict-lost = judged-lost (judgeRows longest set pattern) (setOf set) (outcomes pattern) r judged
+
+  -- the losing job is one of the window that is said, so the window begins with it or fewer jobs before it than a window has
+  pub verdict-window : (j i : ℕ) (from : ℤ) → r ≡ Lost j i from → (n : ℕ) × (n < width (ruleAt (setOf set) i)) × (from +ℤ pos n ≡ pos j)
+  verdict-window j i from e =
+      let (tested, (lost, window)) = verdict-lost j i from .0 e in
+      lost-in-window longest (setOf set) (accepted-allowed longest set (all-passed (setRows longest set) (patternRows pattern) tested .0)) (outcomes pattern) j i lost from window
 
 -- The verdict on a night log: the set is accepted and the bytes are a log.
 module _ (set log : List ℕ) (r : Judgement) (judged : LogJudgedAs longest set log r) where
   pub log-verdict-kept : (r ≡ Kept) ↔ ((first (logJudgeRows longest set log) ≡ passed) × KeptBy (setOf set) (outcomesOf log))
   log-verdict-kept = judged-kept (logJudgeRows longest set log) (setOf set) (outcomesOf log) r judged
 
-  pub log-verdict-lost : (j i : ℕ) → (r ≡ Lost j i) ↔ ((first (logJudgeRows longest set log) ≡ passed) × LostAt (setOf set) (outcomesOf log) j i)
+  pub log-verdict-lost : (j i : ℕ) (from : ℤ) → (r ≡ Lost j i from) ↔ ((first (logJudgeRows longest set log) ≡ passed) × LostFrom (setOf set) (outcomesOf log) j i from)
   log-verdict-lost = judged-lost (logJudgeRows longest set log) (setOf set) (outcomesOf log) r judged
+
+  pub log-verdict-window : (j i : ℕ) (from : ℤ) → r ≡ Lost j i from → (n : ℕ) × (n < width (ruleAt (setOf set) i)) × (from +ℤ pos n ≡ pos j)
+  log-verdict-window j i from e =
+      let (tested, (lost, window)) = log-verdict-lost j i from .0 e in
+      lost-in-window longest (setOf set) (accepted-allowed longest set (all-passed (setRows longest set) (logRows log) tested .0)) (outcomesOf log) j i lost from window
 
 -- The comparison says yes exactly when both sets are accepted and the first covers the second, and else its pattern is exactly the first one between them, of no more jobs than the longest window.
 module _ (a b : List ℕ) (r : Compared) (compared : ComparedAs longest a b r) where

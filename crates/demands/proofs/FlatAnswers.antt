@@ -5,6 +5,7 @@ use mathlib.Core.Bool.{Bool}
 use mathlib.Core.List.{List}
 use Prim.Native.Nat.{ℕ, _≤_}
 use native.Mathlib.Omega.{arith}
+use lib.IntN.{ℤ}
 use Rattle.layout.specs.Refusal.{Row, Tested, first}
 use Rattle.layout.specs.declared.WriteAnswer.{WriteAnswer}
 use Rattle.layout.specs.declared.WriteAnswer.the-variants as write
@@ -62,7 +63,7 @@ written-opens (write.Refused n v) = (refl, refl)
 
 pub verdict-opens : (a : Judgement) → Opens (judge-says a) (flatVerdict a .refused) (flatVerdict a .at)
 verdict-opens judge.Kept = (refl, refl)
-verdict-opens (judge.Lost j i) = (refl, refl)
+verdict-opens (judge.Lost j i f) = (refl, refl)
 verdict-opens (judge.Refused n v) = (refl, refl)
 
 pub built-opens : (a : BuildAnswer) → Opens (build-says a) (flatBuilt a .refused) (flatBuilt a .at)
@@ -143,18 +144,18 @@ kept-flat a = (kept a, ap (λ z. flatVerdict z .kept))
   where
     kept : (a : Judgement) → flatVerdict a .kept ≡ 1 → a ≡ judge.Kept
     kept judge.Kept z = refl
-    kept (judge.Lost j i) z = absurd (omega arith)
+    kept (judge.Lost j i f) z = absurd (omega arith)
     kept (judge.Refused n v) z = absurd (omega arith)
 
 pub kept-or-not : (a : Judgement) → (flatVerdict a .kept ≡ 0) ⊎ (flatVerdict a .kept ≡ 1)
 kept-or-not judge.Kept = inr refl
-kept-or-not (judge.Lost j i) = inl refl
+kept-or-not (judge.Lost j i f) = inl refl
 kept-or-not (judge.Refused n v) = inl refl
 
-pub lost-flat : (a : Judgement) (j i : ℕ) → 1 ≤ j → ((flatVerdict a .job ≡ j) × (flatVerdict a .limit ≡ i)) ↔ (a ≡ judge.Lost j i)
-lost-flat a j i h = (lost a, λ e. (ap (λ z. flatVerdict z .job) e, ap (λ z. flatVerdict z .limit) e))
+pub lost-flat : (a : Judgement) (j i : ℕ) (first : ℤ) → 1 ≤ j → ((flatVerdict a .job ≡ j) × (flatVerdict a .limit ≡ i) × (flatVerdict a .first ≡ first)) ↔ (a ≡ judge.Lost j i first)
+lost-flat a j i first h = (lost a, λ e. (ap (λ z. flatVerdict z .job) e, ap (λ z. flatVerdict z .limit) e, ap (λ z. flatVerdict z .first) e))
   where
-    lost : (a : Judgement) → (flatVerdict a .job ≡ j) × (flatVerdict a .limit ≡ i) → a ≡ judge.Lost j i
-    lost judge.Kept z = absurd (omega arith)
-    lost (judge.Lost k m) (e, f) = cc
-    lost (judge.Refused n v) z = absurd (omega arith)
+    lost : (a : Judgement) → (flatVerdict a .job ≡ j) × (flatVerdict a .limit ≡ i) × (flatVerdict a .first ≡ first) → a ≡ judge.Lost j i first
+    lost judge.Kept z = absurd (omega (arith, z .0))
+    lost (judge.Lost k m n) (e, f, g) = cc
+    lost (judge.Refused n v) z = absurd (omega (arith, z .0))

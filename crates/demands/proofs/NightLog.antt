@@ -5,6 +5,7 @@ use mathlib.Core.Bool.{Bool, true, false, true≢false}
 use mathlib.Core.List.{List}
 use Prim.Native.Nat.{ℕ, _≤_, _<_}
 use native.Mathlib.Omega.{arith}
+use lib.IntN.{ℤ}
 use native.Mathlib.Decide.{decLt}
 use borrow.Author.Tests.{lt-ltb, le-ltb}
 use denote.Ref.{now}
@@ -15,7 +16,8 @@ use Rattle.layout.specs.Refusal.{passed, refused, first}
 use Rattle.layout.proofs.Rows.{and-then, from-to, both-passed, first-append}
 use Rattle.layout.proofs.Write.{refused-leaves-buffer}
 use Rattle.meaning.specs.Longest.{longest}
-use Rattle.meaning.specs.Sets.{KeptBy, LostAt}
+use Rattle.meaning.specs.Sets.{KeptBy}
+use Rattle.meaning.specs.Broken.{LostFrom}
 use Rattle.sets.specs.Bytes.{setOf}
 use Rattle.sets.specs.Rows.{setRows}
 use Rattle.verdict.specs.declared.Judgement.{Judgement}
@@ -166,5 +168,5 @@ module _ (set b : List ℕ) (f : FloeVerdict) (flat : FlatAnswer (LogJudgedAs lo
   pub floe-log-judge-kept-or-not : (f .kept ≡ 0) ⊎ (f .kept ≡ 1)
   floe-log-judge-kept-or-not = rw (flat .2) (kept-or-not (flat .0))
 
-  pub floe-log-judge-lost : (j i : ℕ) → 1 ≤ j → ((f .job ≡ j) × (f .limit ≡ i)) ↔ ((first (logJudgeRows longest set b) ≡ passed) × LostAt (setOf set) (outcomesOf b) j i)
-  floe-log-judge-lost j i h = Iff·trans (rw (flat .2) (lost-flat (flat .0) j i h)) (log-verdict-lost set b (flat .0) (flat .1) j i)
+  pub floe-log-judge-lost : (j i : ℕ) (from : ℤ) → 1 ≤ j → ((f .job ≡ j) × (f .limit ≡ i) × (f .first ≡ from)) ↔ ((first (logJudgeRows longest set b) ≡ passed) × LostFrom (setOf set) (outcomesOf b) j i from)
+  floe-log-judge-lost j i from h = Iff·trans (rw (flat .2) (lost-flat (flat .0) j i from h)) (log-verdict-lost set b (flat .0) (flat .1) j i from)

@@ -14,7 +14,7 @@ use Rattle.meaning.specs.declared.LimitSet.{LimitSet}
 use Rattle.sets.specs.Rows.{setRows, memoryRows}
 use Rattle.sets.specs.Write.{sizeOf, writeRows}
 use Rattle.sets.proofs.Numbers.{set-numbers, MemoryNumber, memory-numbers}
-use Rattle.verdict.specs.Judge.{judgeRows}
+use Rattle.verdict.specs.Judge.{patternRows, judgeRows}
 use Rattle.night_log.specs.Bytes.{sizeOf as logSize}
 use Rattle.night_log.specs.Rows.{logRows, writeRows as logWriteRows}
 use Rattle.night_log.specs.Judge.{logJudgeRows}
@@ -35,7 +35,7 @@ write-numbers w s out =
 
 -- the verdict: 1 to 7, 13
 abbrev pub JudgeNumber : ℕ → Type 0
-JudgeNumber n = from-to 1 7 n ⊎ (n ≡ 13)
+JudgeNumber n = from-to 1 7 n ⊎ ((n ≡ 26) ⊎ (n ≡ 13))
 
 outcome-numbers : (p : List ℕ) (i : ℕ) → Numbers (λ n. n ≡ 13) (outcomeRows p i)
 unfolding outcomeRows
@@ -44,9 +44,9 @@ outcome-numbers (b ∷ p) i = (refl, outcome-numbers p (suc i))
 
 pub judge-numbers : (w : ℕ) (b p : List ℕ) → Numbers JudgeNumber (judgeRows w b p)
 judge-numbers w b p =
-    numbers-append JudgeNumber (setRows w b) (outcomeRows p 0)
+    numbers-append JudgeNumber (setRows w b) (patternRows p)
     (numbers-among (from-to 1 7) JudgeNumber (λ n h. inl h) (setRows w b) (set-numbers w b))
-    (numbers-among (λ n. n ≡ 13) JudgeNumber (λ n h. inr h) (outcomeRows p 0) (outcome-numbers p 0))
+    (inr (inl refl), numbers-among (λ n. n ≡ 13) JudgeNumber (λ n h. inr (inr h)) (outcomeRows p 0) (outcome-numbers p 0))
 
 -- a night log: 15 and 16; writing one: 9, 13, 15; judging one: 1 to 7, 15, 16
 pub log-numbers : (b : List ℕ) → Numbers (from-to 15 16) (logRows b)
