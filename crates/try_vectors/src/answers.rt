@@ -68,18 +68,20 @@ pub(crate) fn print_written(written: WriteAnswer) -> usize {
     }
 }
 
-// As `lost at 4 by limit 0`.
-fn print_lost(job: u64, limit: usize) {
+// As `lost at 4 by limit 0 from 3`, or from -1 where the window begins before the pattern.
+fn print_lost(job: u64, limit: usize, first: i64) {
     text::print(b"lost at ");
     text::print_number(job);
     text::print(b" by limit ");
     text::print_number(limit as u64);
+    text::print(b" from ");
+    text::print_signed(first);
 }
 
 pub(crate) fn print_judgement(judgement: verdict::Judgement) {
     match judgement {
         verdict::Judgement::Kept => text::print(b"kept"),
-        verdict::Judgement::Lost { job, limit } => print_lost(job, limit),
+        verdict::Judgement::Lost { job, limit, first } => print_lost(job, limit, first),
         verdict::Judgement::Refused { number, at } => text::print_refusal(number, at),
     }
 }

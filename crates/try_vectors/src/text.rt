@@ -15,6 +15,16 @@ pub(crate) fn print_number(n: u64) {
     io::print_decimal(STDOUT_FILENO, n);
 }
 
+// As `-1`, `0` or `1`. The last step up to 0 is taken as a u64, since the least i64 has no opposite.
+pub(crate) fn print_signed(n: i64) {
+    if n < 0 {
+        print(b"-");
+        print_number((-(n + 1)) as u64 + 1);
+        return;
+    }
+    print_number(n as u64);
+}
+
 fn digit(value: u8) -> u8 {
     let low = value % 16;
     if low < 10 {
