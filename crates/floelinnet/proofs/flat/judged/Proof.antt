@@ -1,8 +1,9 @@
 -- `floelinnet::flat::judged`: each case of the answer is flattened as the definition says. Assumes nothing.
-use mathlib.Core.Path.{_≡_, sym, ap}
+use mathlib.Core.Path.{_≡_, sym, ap, _∙_}
 use mir.Syntax.{w64}
 use mir.Val.{toZ, ofZ}
 use borrow.Author.Needs.{needs}
+use Rattle.verdict.specs.declared.Judgement.the-variants.{Lost}
 use Rattle.floelinnet.specs.Flat.{flatVerdict}
 use Rattle.floelinnet.proofs.flat.judged.Statement.{statement}
 use Rattle.floelinnet.proofs.flat.judged.Tie as tie
@@ -24,9 +25,9 @@ returns c = sym (ap flatVerdict (c .enum-told .given .1))
 
 returns-2 : tie.Need-returns-2
 returns-2 c =
-    let first = c .before .answer .given .0 .1 .1 .0 in
-    let read : toZ w64 (ofZ w64 first) ≡ first = search needs in
-    rw read (sym (ap flatVerdict (c .before .answer .given .1)))
+    let a = c .before .answer .given .0 in
+    let read : toZ w64 (ofZ w64 (a .1 .1 .0)) ≡ a .1 .1 .0 = search needs in
+    ap (λ first. flatVerdict (Lost (a .0) (a .1 .0) first)) read ∙ sym (ap flatVerdict (c .before .answer .given .1))
 
 returns-3 : tie.Need-returns-3
 returns-3 c = sym (ap flatVerdict (c .before .answer2 .given .1))
