@@ -33,7 +33,7 @@ write-numbers w s out =
     numbers-append WriteNumber (memoryRows w s) (roomRow out (sizeOf s) ∷ [])
     (numbers-among MemoryNumber WriteNumber (λ n h. inl h) (memoryRows w s) (memory-numbers w s)) (inr refl, tt)
 
--- the verdict: 1 to 7, 13
+-- the verdict: 1 to 7, 26, 13
 abbrev pub JudgeNumber : ℕ → Type 0
 JudgeNumber n = from-to 1 7 n ⊎ ((n ≡ 26) ⊎ (n ≡ 13))
 

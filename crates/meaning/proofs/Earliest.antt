@@ -106,7 +106,7 @@ module _ (w : ℕ) (s : LimitSet) (ok : SetAllowed w s) (p : List Bool) (j i : �
       go false e = e
       go true e = absurd (lost .lost (subst (λ z. KeptBy s z) (sym e) (kept-by-hit s (take (j - 1) p) (lost .shortest (j - 1) (omega (arith, lost-after))))))
 
-  -- RULES, Lost: "job j is one of its jobs"
+  -- RULES, Lost: "job j lies in the window"
   pub lost-in-window : (first : ℤ) → BrokenFrom (ruleAt s i) (take j p) first → (n : ℕ) × (n < width (ruleAt s i)) × (first +ℤ pos n ≡ pos j)
   lost-in-window first (a, b, e) =
       let before = take (j - 1) p in
