@@ -39,7 +39,8 @@ int main(int count, char *names[]) {
         } else if (verdict.kept) {
             printf("%s: kept\n", names[i]);
         } else {
-            printf("%s: lost at job %" PRIu64 " by limit %" PRIu64 "\n", names[i], verdict.job, verdict.limit);
+            printf("%s: lost at job %" PRIu64 " by limit %" PRIu64 ", in the window from job %" PRId64 "\n", names[i],
+                   verdict.job, verdict.limit, verdict.first);
         }
     }
     return status;

@@ -16,7 +16,8 @@
  * more.
  *
  * The way to judge a visit later: floe_log_write makes a night log of its outcomes, which is stored, and floe_log_judge
- * gives the verdict on it, under these or any other limits. examples/visit.c is a whole program.
+ * gives the verdict on it, under these or any other limits, and says of a lost one where to look. examples/visit.c is a
+ * whole program.
  *
  * Lengths named ..._len count elements: bytes, and for `work` entries of 16 bits. The `count` of a row counts guards.
  *
@@ -57,7 +58,7 @@
 
 /* The version of this header and of the archive that it came with. A program is compiled against the header of the
  * archive that it links. */
-#define FLOE_VERSION "0.4.0"
+#define FLOE_VERSION "0.5.0"
 
 #define FLOE_MOST_LIMITS 8      /* limits in a set, at the most */
 #define FLOE_LONGEST_SET 30     /* bytes of the longest set */
@@ -104,7 +105,7 @@ enum floe_log_answer {
 
 /* Why a call is refused, and what `at` says then (where nothing is said, 0). The numbers are tested in this order,
  * limits first to last and each for its kind, k and x, and the first that applies is given; but a call on a row tests
- * FLOE_REFUSED_JOB first, and floe_log_write tests 15, 13 and then 9. */
+ * FLOE_REFUSED_JOB first, floe_judge tests 26 before 13, and floe_log_write tests 15, 13 and then 9. */
 enum floe_refusal {
     FLOE_ACCEPTED = 0,               /* the call was not refused */
     FLOE_REFUSED_SET_LENGTH = 1,     /* set: under 6 bytes, or its length field isn't the count of bytes after it */
@@ -127,7 +128,9 @@ enum floe_refusal {
     FLOE_REFUSED_LOG = 15,           /* log: under 9 bytes, or its length field isn't the count of bytes after it, its
                                         version isn't 1, or its length field isn't 5 and the bytes that its count of
                                         outcomes takes; or a pattern for a log has more than 4,294,967,295 outcomes */
-    FLOE_REFUSED_UNUSED_BITS = 16    /* the low bits of the log's last byte that no outcome takes aren't all zero */
+    FLOE_REFUSED_UNUSED_BITS = 16,   /* the low bits of the log's last byte that no outcome takes aren't all zero */
+    FLOE_REFUSED_PATTERN_LENGTH = 26 /* a pattern that is to be judged has more than 9,223,372,036,854,775,807 outcomes;
+                                        no memory of an x86-64 machine holds so many */
 };
 
 /* A compiler that can do so warns where an answer is dropped. What a guard was told is in the guard that comes back, so
@@ -163,7 +166,7 @@ typedef struct { uint16_t state; bool lost; } floe_guard;
 
 typedef struct { uint64_t refused, at; floe_set set; } floe_set_read;
 typedef struct { uint64_t refused, at, length; } floe_written;
-typedef struct { uint64_t refused, at, kept, job, limit; } floe_verdict;
+typedef struct { uint64_t refused, at, kept, job, limit; int64_t first; } floe_verdict;
 typedef struct { uint64_t refused, at, which, covers, length; uint8_t pattern[16]; } floe_comparison;
 typedef struct { uint64_t refused, at, length; } floe_built;
 typedef struct { uint64_t refused, at, states; } floe_checked;
@@ -200,8 +203,14 @@ FLOE_NODISCARD floe_written floe_write_set(floe_set set, uint8_t *bytes, size_t 
  * kept: 1 where the pattern is kept (the empty pattern always is); 0 where it is lost or the call is refused.
  * job: where it is lost, the first job, from 1, up to which it isn't kept. limit: the lowest number, from 0, of a limit
  * that doesn't keep the pattern up to that job. Both are 0 where nothing is lost.
+ * first: where it is lost, where to look. With endless hits before and after the pattern up to that job, the earliest
+ * window of that limit that fails begins with this job. The job at which the pattern is lost lies in this window, so
+ * first is at most 11 less. The pattern begins with job 1; jobs 0, -1, -2 and so on, to -10 at the most, are hits that
+ * count as standing before it. first is 0 where nothing is lost; but a window may begin with job 0, so look at refused,
+ * and at kept or job, before it.
  *
- * Refuses by 1 to 7 for the set, then by 13 for the pattern: all of it is tested, even if it is lost earlier.
+ * Refuses by 1 to 7 for the set, then by 26 and then by 13 for the pattern: all of its outcomes are tested, even if it
+ * is lost earlier.
  */
 FLOE_NODISCARD floe_verdict floe_judge(const uint8_t *set, size_t set_len,
                                        const uint8_t *pattern, size_t pattern_len);
@@ -376,7 +385,8 @@ FLOE_NODISCARD floe_log_read floe_log_next(uint64_t place, const uint8_t *log, s
  * Judges the outcomes that a log holds, under the set in these bytes: the verdict that floe_judge gives on the pattern
  * of which it is the log.
  *
- * Refuses by 1 to 7 for the set, then by 15 and by 16 for the log; kept is 0 then.
+ * Refuses by 1 to 7 for the set, then by 15 and by 16 for the log; kept is 0 then. It never refuses by 26, since no log
+ * has so many outcomes.
  */
 FLOE_NODISCARD floe_verdict floe_log_judge(const uint8_t *set, size_t set_len, const uint8_t *log, size_t log_len);
 

@@ -10,22 +10,29 @@ use floelinnet_tests::reference::sets::bytes;
 use crate::clock::{side_by_side, use_up};
 use crate::figures::{Figure, Figures, Unit};
 use crate::plain;
-use crate::verdict::{kept, mixed, OUTCOMES};
+use crate::verdict::{answer, kept, lost, mended, mixed, OUTCOMES};
 
 pub fn measure(figures: &mut Figures) {
     let mixed = mixed();
     judged(figures, "all hits", &mixed, &vec![1; OUTCOMES]);
     judged(figures, "random, few misses: 1 in 20", &mixed, &kept(&mixed, OUTCOMES, 20));
     judged(figures, "random, a miss 1 in 2 times that it may be", &mixed, &kept(&mixed, OUTCOMES, 2));
+    lost_beside_kept(figures, &mixed);
     written_and_read(figures);
+}
+
+/// All sides give one answer, for which the pattern is gone through to its end.
+fn agree(set: &[u8], pattern: &[u8], log: &[u8]) {
+    let found = floe::log::judge(set, log);
+    assert!(found.kept == 1 || found.job == pattern.len() as u64, "{found:?}");
+    assert_eq!(floe::verdict::judge(set, pattern), found);
+    assert_eq!(plain::log::judge(set, log), answer(found));
 }
 
 fn judged(figures: &mut Figures, input: &str, limits: &[Limit], pattern: &[u8]) {
     let set = bytes(limits);
     let log = log_of(pattern);
-    assert_eq!(floe::log::judge(&set, &log).kept, 1);
-    assert_eq!(floe::verdict::judge(&set, pattern).kept, 1);
-    assert_eq!(plain::log::judge(&set, &log), Ok(None));
+    agree(&set, pattern, &log);
     let times = side_by_side(&mut [
         &mut || use_up(floe::log::judge(black_box(&set), black_box(&log))),
         &mut || use_up(floe::verdict::judge(black_box(&set), black_box(pattern))),
@@ -46,6 +53,26 @@ fn judged(figures: &mut Figures, input: &str, limits: &[Limit], pattern: &[u8]) 
             plain: time,
         });
     }
+}
+
+fn lost_beside_kept(figures: &mut Figures, limits: &[Limit]) {
+    let set = bytes(limits);
+    let pattern = lost(limits, OUTCOMES, 2);
+    let (lost, kept) = (log_of(&pattern), log_of(&mended(&pattern)));
+    agree(&set, &pattern, &lost);
+    agree(&set, &mended(&pattern), &kept);
+    let times = side_by_side(&mut [&mut || use_up(floe::log::judge(black_box(&set), black_box(&lost))), &mut || {
+        use_up(floe::log::judge(black_box(&set), black_box(&kept)))
+    }]);
+    figures.add(Figure {
+        what: "judge a log, mixed",
+        input: "random, a miss 1 in 2 times that it may be, lost at the last job",
+        buffers: "125,009 bytes, read just before; none written",
+        unit: Unit::NanosecondsPerOutcome(OUTCOMES),
+        archive: times[0],
+        beside: "floe_log_judge with a hit at the last job, kept",
+        plain: times[1],
+    });
 }
 
 fn written_and_read(figures: &mut Figures) {

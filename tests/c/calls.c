@@ -69,6 +69,7 @@ static void print_verdict(floe_verdict verdict) {
     field(", kept: ", verdict.kept);
     field(", job: ", verdict.job);
     field(", limit: ", verdict.limit);
+    printf(", first: %" PRId64, verdict.first);
     end();
 }
 
@@ -137,12 +138,16 @@ static void print_read(floe_log_read read) {
     end();
 }
 
+/* AnyHit(12,12): the window of a pattern that it loses early begins before the pattern. */
+static const uint8_t all_of_12_bytes[] = {0, 0, 0, 5, 1, 1, 0, 12, 12};
+
 /* Logs: written into a block of the length that the writer asks for, read to the end and past it, judged, and refused. */
 static void logs(const uint8_t *set, size_t set_len, const uint8_t *faulty, size_t faulty_len, uint8_t *nothing) {
     const uint8_t night_bytes[] = {1, 1, 0, 1, 1, 1, 0, 1, 0, 0};
     const uint8_t no_night_bytes[] = {1, 2, 0};
     uint8_t *night = lent(night_bytes, sizeof night_bytes);
     uint8_t *no_night = lent(no_night_bytes, sizeof no_night_bytes);
+    uint8_t *all_of_12 = lent(all_of_12_bytes, sizeof all_of_12_bytes);
 
     floe_written needed = floe_log_write(night, sizeof night_bytes, nothing, 0);
     print_written(needed);
@@ -170,6 +175,7 @@ static void logs(const uint8_t *set, size_t set_len, const uint8_t *faulty, size
     print_read(floe_log_next(0, empty, 9));
 
     print_verdict(floe_log_judge(set, set_len, log, length));
+    print_verdict(floe_log_judge(all_of_12, sizeof all_of_12_bytes, log, length));
     print_verdict(floe_log_judge(set, set_len, empty, 9));
     print_verdict(floe_log_judge(faulty, faulty_len, nothing, 0));
 
@@ -187,6 +193,7 @@ static void logs(const uint8_t *set, size_t set_len, const uint8_t *faulty, size
 
     free(night);
     free(no_night);
+    free(all_of_12);
     free(log);
     free(empty);
     free(spoilt);
@@ -202,6 +209,7 @@ int main(void) {
     uint8_t *set = lent(set_bytes, sizeof set_bytes);
     uint8_t *other = lent(other_bytes, sizeof other_bytes);
     uint8_t *faulty = lent(faulty_bytes, sizeof faulty_bytes);
+    uint8_t *all_of_12 = lent(all_of_12_bytes, sizeof all_of_12_bytes);
     uint8_t *pattern = lent(pattern_bytes, sizeof pattern_bytes);
     uint8_t *faulty_pattern = lent(faulty_pattern_bytes, sizeof faulty_pattern_bytes);
     uint8_t *nothing = lent(set_bytes, 0);
@@ -225,6 +233,7 @@ int main(void) {
     puts("");
 
     print_verdict(floe_judge(set, sizeof set_bytes, pattern, sizeof pattern_bytes));
+    print_verdict(floe_judge(all_of_12, sizeof all_of_12_bytes, pattern, sizeof pattern_bytes));
     print_verdict(floe_judge(set, sizeof set_bytes, nothing, 0));
     print_verdict(floe_judge(set, sizeof set_bytes, faulty_pattern, sizeof faulty_pattern_bytes));
     print_verdict(floe_judge(faulty, sizeof faulty_bytes, pattern, sizeof pattern_bytes));
@@ -287,6 +296,7 @@ int main(void) {
     free(set);
     free(other);
     free(faulty);
+    free(all_of_12);
     free(pattern);
     free(faulty_pattern);
     free(nothing);

@@ -31,6 +31,7 @@ int main(void) {
     FIELD(floe_verdict, kept);
     FIELD(floe_verdict, job);
     FIELD(floe_verdict, limit);
+    FIELD(floe_verdict, first);
     RECORD(floe_comparison);
     FIELD(floe_comparison, refused);
     FIELD(floe_comparison, at);

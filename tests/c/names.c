@@ -1,7 +1,8 @@
 /*
  * Ties the header's names to the library: each constant to the calls that it is for, one at the bound and one past it,
  * each kind to patterns that it keeps and doesn't, each answer and each refusal to a call that gives it. Says the
- * constants that Rust has too, for the test to compare.
+ * constants that Rust has too, for the test to compare; among them FLOE_REFUSED_PATTERN_LENGTH, which no call with
+ * memory that is there can give.
  */
 #include <floelinnet.h>
 #include <stdio.h>
@@ -60,6 +61,29 @@ static void kinds(void) {
         HOLDS(floe_judge(set, sizeof set, apart, 3).kept == kinds[i].apart);
     }
     HOLDS(refused(limit(FLOE_ROW_MISS + 1, 0, 1)) == FLOE_REFUSED_LIMIT_KIND);
+}
+
+/* Where to look, below job 1 too: a first job is a signed number, and 0 alone doesn't say that nothing is lost. */
+static void first_jobs(void) {
+    const struct { uint8_t kind, x, k, misses; uint64_t job; int64_t first; } lost[] = {
+        {FLOE_ROW_MISS, 2, 0, 2, 2, 1},
+        {FLOE_ROW_HIT, 2, 5, 3, 3, 0},
+        {FLOE_ANY_MISS, 2, 5, 3, 3, -1},
+        {FLOE_ANY_HIT, 12, 12, 1, 1, -10},
+    };
+    const uint8_t misses[] = {FLOE_MISS, FLOE_MISS, FLOE_MISS};
+    for (size_t i = 0; i < sizeof lost / sizeof *lost; i++) {
+        const uint8_t set[] = {0, 0, 0, 5, 1, 1, lost[i].kind, lost[i].x, lost[i].k};
+        const uint8_t log[] = {0, 0, 0, 6, 1, 0, 0, 0, lost[i].misses, 0};
+        floe_verdict verdict = floe_judge(set, sizeof set, misses, lost[i].misses);
+        HOLDS(verdict.refused == FLOE_ACCEPTED && verdict.kept == 0 && verdict.job == lost[i].job);
+        HOLDS(verdict.first == lost[i].first && (verdict.first < 0) == (lost[i].first < 0));
+        HOLDS(floe_log_judge(set, sizeof set, log, sizeof log).first == verdict.first);
+        verdict = floe_judge(set, sizeof set, misses, 0);
+        HOLDS(verdict.kept == 1 && verdict.first == 0);
+        verdict = floe_judge(set, sizeof set - 1, misses, lost[i].misses);
+        HOLDS(verdict.refused == FLOE_REFUSED_SET_LENGTH && verdict.kept == 0 && verdict.first == 0);
+    }
 }
 
 static void sizes(void) {
@@ -159,7 +183,9 @@ int main(void) {
     SAY(FLOE_HIT);
     SAY(FLOE_LOG_SIZE(0));
     SAY(FLOE_LOG_SIZE(86401));
+    SAY(FLOE_REFUSED_PATTERN_LENGTH);
     kinds();
+    first_jobs();
     sizes();
     answers();
     logs();

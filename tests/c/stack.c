@@ -1,6 +1,7 @@
 /*
  * How much stack each function uses: it is called on a stack that was painted before, and what is no longer painted was
- * used. Counted from a call that does nothing, with the record of the answer, the larger of two calls. Linked with
+ * used. Counted from a call that does nothing, with the record of the answer, the larger of two calls: one that is
+ * answered and one that is refused, and of verdicts one that is kept and one that is lost at its last job. Linked with
  * -z now, so that the dynamic linker's own stack isn't counted.
  */
 #define _XOPEN_SOURCE 700
@@ -20,8 +21,10 @@ static uint8_t set[FLOE_LONGEST_SET], other[] = {0, 0, 0, 5, 1, 1, FLOE_ANY_HIT,
 static uint16_t work[FLOE_WORK_ENTRIES];
 static size_t set_len, table_len;
 static const uint8_t pattern[] = {0, 0, 1, 0, 1, 1, 0, 0, 1, 0, 1, 1, 1, 1, 0, 1, 0, 1, 1, 0};
+static const uint8_t lost[] = {0, 0, 1, 0, 1, 1, 0, 0, 1, 0, 1, 1, 1, 1, 0, 1, 0, 1, 1, 0, 0, 0, 0};
 static floe_guard row[FLOE_MOST_GUARDS], guard;
 static uint8_t night[FLOE_LOG_SIZE(sizeof pattern)], spare[FLOE_LOG_SIZE(sizeof pattern)];
+static uint8_t lost_night[FLOE_LOG_SIZE(sizeof lost)];
 
 /* Each call of a function is one more of its name; answers are used, so that the calls stay. */
 static volatile uint64_t used_up;
@@ -33,7 +36,7 @@ CALL(floe_read_set, 1, floe_read_set(set, set_len - 1))
 CALL(floe_write_set, 0, floe_write_set(all_kinds, set, sizeof set))
 CALL(floe_write_set, 1, floe_write_set(all_kinds, set, 0))
 CALL(floe_judge, 0, floe_judge(set, set_len, pattern, sizeof pattern))
-CALL(floe_judge, 1, floe_judge(set, set_len, set, set_len))
+CALL(floe_judge, 1, floe_judge(set, set_len, lost, sizeof lost))
 CALL(floe_compare, 0, floe_compare(set, set_len, other, sizeof other))
 CALL(floe_compare, 1, floe_compare(other, sizeof other, other, sizeof other))
 CALL(floe_build, 0, floe_build(set, set_len, work, FLOE_WORK_ENTRIES, table, sizeof table))
@@ -59,7 +62,7 @@ CALL(floe_log_open, 1, floe_log_open(night, sizeof night - 1))
 CALL(floe_log_next, 0, floe_log_next(sizeof pattern - 1, night, sizeof night))
 CALL(floe_log_next, 1, floe_log_next(0, night, sizeof night - 1))
 CALL(floe_log_judge, 0, floe_log_judge(set, set_len, night, sizeof night))
-CALL(floe_log_judge, 1, floe_log_judge(set, set_len, night, sizeof night - 1))
+CALL(floe_log_judge, 1, floe_log_judge(set, set_len, lost_night, sizeof lost_night))
 
 static void nothing(void) {
     used_up = 0;
@@ -89,7 +92,10 @@ int main(void) {
     set_len = floe_write_set(all_kinds, set, sizeof set).length;
     table_len = floe_build(set, set_len, work, FLOE_WORK_ENTRIES, table, sizeof table).length;
     size_t night_len = floe_log_write(pattern, sizeof pattern, night, sizeof night).length;
-    if (table_len == 0 || night_len != sizeof night) return 1;
+    size_t lost_len = floe_log_write(lost, sizeof lost, lost_night, sizeof lost_night).length;
+    if (table_len == 0 || night_len != sizeof night || lost_len != sizeof lost_night) return 1;
+    if (floe_judge(set, set_len, pattern, sizeof pattern).kept != 1) return 1;
+    if (floe_judge(set, set_len, lost, sizeof lost).job != sizeof lost) return 1;
     SAY(floe_read_set);
     SAY(floe_write_set);
     SAY(floe_judge);

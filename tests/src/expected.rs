@@ -41,7 +41,9 @@ pub fn verdict(answer: Result<Option<Lost>, Refusal>) -> floe::Verdict {
     let mut verdict = floe::Verdict::default();
     match answer {
         Ok(None) => verdict.kept = 1,
-        Ok(Some(lost)) => (verdict.job, verdict.limit) = (lost.job as u64, lost.limit as u64),
+        Ok(Some(Lost { job, limit, first })) => {
+            (verdict.job, verdict.limit, verdict.first) = (job as u64, limit as u64, first)
+        }
         Err(refusal) => (verdict.refused, verdict.at) = numbers(refusal),
     }
     verdict

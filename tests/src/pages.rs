@@ -1,16 +1,50 @@
 //! The reference's answer for every limit on every pattern of at most 12 jobs, worked out once, so that many
-//! sets can be tried on all of these patterns. A page has a bit for each pattern, in the order of patterns.
+//! sets can be tried on all of these patterns.
 
+use std::collections::HashMap;
 use std::sync::OnceLock;
 
 use crate::reference::limits::{allowed_limits, keeps, Limit};
 use crate::reference::patterns_in_order;
+use crate::reference::verdict::{first, Lost};
 
 pub const JOBS: usize = 12;
 pub const PATTERNS: usize = (1 << (JOBS + 1)) - 1;
 const WORDS: usize = PATTERNS.div_ceil(64);
 
-type Page = [u64; WORDS];
+/// A bit for each pattern, in the order of patterns.
+type Bits = [u64; WORDS];
+
+/// What one limit says.
+struct Page {
+    kept: Bits,
+    /// Where to look in a pattern that is lost at its last job, by the pattern's place. No set asks for more: of the
+    /// pattern at whose last job a set is lost, every shorter beginning is kept by each of its limits.
+    first: HashMap<usize, i64>,
+}
+
+impl Page {
+    fn new(limit: Limit, patterns: &[Vec<u8>]) -> Page {
+        let mut page = Page { kept: [0; WORDS], first: HashMap::new() };
+        for (place, pattern) in patterns.iter().enumerate() {
+            if keeps(limit, pattern) {
+                page.kept[place / 64] |= 1 << (place % 64);
+            } else if page.keeps(shorter(place)) {
+                page.first.insert(place, first(limit, pattern));
+            }
+        }
+        page
+    }
+
+    fn keeps(&self, place: usize) -> bool {
+        self.kept[place / 64] >> (place % 64) & 1 == 1
+    }
+}
+
+/// Where the pattern at this place stands without its newest outcome: at half its place.
+fn shorter(place: usize) -> usize {
+    (place - 1) / 2
+}
 
 pub struct Pages {
     limits: Vec<Limit>,
@@ -23,14 +57,7 @@ pub fn pages() -> &'static Pages {
     PAGES.get_or_init(|| {
         let patterns: Vec<_> = patterns_in_order(JOBS).collect();
         let limits = allowed_limits();
-        let page = |&limit: &Limit| {
-            let mut page = [0; WORDS];
-            for (place, pattern) in patterns.iter().enumerate() {
-                page[place / 64] |= u64::from(keeps(limit, pattern)) << (place % 64);
-            }
-            page
-        };
-        let pages = limits.iter().map(page).collect();
+        let pages = limits.iter().map(|&limit| Page::new(limit, &patterns)).collect();
         Pages { limits, pages, patterns }
     })
 }
@@ -41,24 +68,25 @@ impl Pages {
     }
 
     /// "A set keeps the patterns that all of its limits keep, and no others."
-    fn kept(&self, set: &[Limit]) -> Page {
+    fn kept(&self, set: &[Limit]) -> Bits {
         let mut kept = [!0; WORDS];
         for &limit in set {
-            kept.iter_mut().zip(self.page(limit)).for_each(|(word, page)| *word &= page);
+            kept.iter_mut().zip(self.page(limit).kept).for_each(|(word, page)| *word &= page);
         }
         kept
     }
 
-    /// For each pattern in order the job at which the set loses it and the limit that doesn't keep the beginning
-    /// up to there, None where it is kept. A pattern without its newest outcome stands at half its place.
-    pub fn verdicts(&self, set: &[Limit]) -> Vec<Option<(usize, usize)>> {
+    /// For each pattern in order where the set loses it, None where it is kept.
+    pub fn verdicts(&self, set: &[Limit]) -> Vec<Option<Lost>> {
         let limits: Vec<&Page> = set.iter().map(|&limit| self.page(limit)).collect();
-        let keeps = |page: &Page, place: usize| page[place / 64] >> (place % 64) & 1 == 1;
-        let mut verdicts: Vec<Option<(usize, usize)>> = Vec::with_capacity(PATTERNS);
+        let mut verdicts: Vec<Option<Lost>> = Vec::with_capacity(PATTERNS);
         for (place, pattern) in self.patterns.iter().enumerate() {
-            let shorter = if place == 0 { None } else { verdicts[(place - 1) / 2] };
-            let breaks = || limits.iter().position(|page| !keeps(page, place)).map(|limit| (pattern.len(), limit));
-            verdicts.push(shorter.or_else(breaks));
+            let earlier = if place == 0 { None } else { verdicts[shorter(place)] };
+            let now = || {
+                let limit = limits.iter().position(|page| !page.keeps(place))?;
+                Some(Lost { job: pattern.len(), limit, first: limits[limit].first[&place] })
+            };
+            verdicts.push(earlier.or_else(now));
         }
         verdicts
     }

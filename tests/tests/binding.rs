@@ -30,7 +30,7 @@ fn standing(guard: Guard) -> guard::Guard {
 fn lost(verdict: Verdict) -> Option<Lost> {
     match verdict {
         Verdict::Kept => None,
-        Verdict::Lost { job, limit } => Some(Lost { job, limit }),
+        Verdict::Lost { job, limit, first } => Some(Lost { job, limit, first }),
     }
 }
 

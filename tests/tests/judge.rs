@@ -4,7 +4,7 @@ use floelinnet_tests::damage::spoilt_set;
 use floelinnet_tests::draw::{cases, Draw};
 use floelinnet_tests::pages::pages;
 use floelinnet_tests::reference::limits::{allowed_limits, keeps, set_keeps, Limit};
-use floelinnet_tests::reference::verdict::{judge, Lost};
+use floelinnet_tests::reference::verdict::{first, judge, Lost};
 use floelinnet_tests::reference::{sets, table, HIT, MISS};
 use floelinnet_tests::{expected, floe};
 
@@ -18,7 +18,7 @@ fn agree(set: &[u8], pattern: &[u8]) -> floe::Verdict {
 fn agree_on_all_short_patterns(limits: &[Limit]) {
     let set = sets::bytes(limits);
     for (pattern, lost) in pages().patterns.iter().zip(pages().verdicts(limits)) {
-        let want = expected::verdict(Ok(lost.map(|(job, limit)| Lost { job, limit })));
+        let want = expected::verdict(Ok(lost));
         assert_eq!(floe::verdict::judge(&set, pattern), want, "judge {limits:?} on {pattern:?}");
     }
 }
@@ -38,7 +38,8 @@ fn row_misses() {
         let fewer = vec![MISS; usize::from(x) - 1];
         let kept = [&fewer[..], &[HIT], &fewer].concat();
         assert_eq!(agree(&set, &kept), floe::Verdict { kept: 1, ..Default::default() }, "RowMiss({x})");
-        let lost = floe::Verdict { job: 2 * u64::from(x), ..Default::default() };
+        // The window is the second run of misses, after the first and the hit.
+        let lost = floe::Verdict { job: 2 * u64::from(x), first: i64::from(x) + 1, ..Default::default() };
         assert_eq!(agree(&set, &[&kept[..], &[MISS]].concat()), lost, "RowMiss({x})");
     }
 }
@@ -79,8 +80,57 @@ fn random_sets_on_longer_patterns() {
     assert!(kept > 100 && lost_late > 100, "kept {kept}, lost after job 12 {lost_late}");
 }
 
+/// "Of the windows of that limit that then fail": another limit that doesn't keep the beginning either may have a window
+/// that fails earlier, or only later ones.
+#[test]
+fn the_window_of_the_limit_that_is_said() {
+    let mut draw = Draw::new(16);
+    let (mut another_earlier, mut another_later, mut before_the_pattern) = (0, 0, 0);
+    for _ in 0..cases(10_000) {
+        let count = 2 + draw.below(7);
+        let limits: Vec<Limit> = (0..count).map(|_| draw.mild_limit()).collect();
+        let jobs = 1 + draw.below(40);
+        let rarity = draw.of(&[1, 2, 3, 4]);
+        let pattern = draw.pattern(jobs, rarity);
+        let verdict = agree(&sets::bytes(&limits), &pattern);
+        if verdict.kept == 1 {
+            continue;
+        }
+        let beginning = &pattern[..verdict.job as usize];
+        let limit = verdict.limit as usize;
+        assert_eq!(verdict.first, first(limits[limit], beginning), "judge {limits:?} on {pattern:?}");
+        let others = limits.iter().filter(|&&other| !keeps(other, beginning));
+        let others: Vec<i64> = others.map(|&other| first(other, beginning)).collect();
+        another_earlier += usize::from(others.iter().any(|&other| other < verdict.first));
+        another_later += usize::from(others.iter().any(|&other| other > verdict.first));
+        before_the_pattern += usize::from(verdict.first < 1);
+    }
+    let seen = [another_earlier, another_later, before_the_pattern];
+    assert!(seen.iter().all(|&cases| cases > 100), "{seen:?}");
+}
+
+/// Numbers of jobs that need more than 16 bits, by hand: each pattern is lost by the miss at job 70,005.
+#[test]
+fn windows_far_into_a_pattern() {
+    let rows: [(Limit, &[usize], i64); 5] = [
+        (Limit { kind: 0, x: 6, k: 8 }, &[70_000, 70_003, 70_005, 70_006], 69_998),
+        // One hit on either side of the misses: 1 000 1.
+        (Limit { kind: 1, x: 2, k: 5 }, &[70_003, 70_004, 70_005], 70_002),
+        (Limit { kind: 2, x: 2, k: 12 }, &[69_994, 70_004, 70_005], 69_994),
+        (Limit { kind: 3, x: 4, k: 0 }, &[70_002, 70_003, 70_004, 70_005], 70_002),
+        (Limit { kind: 3, x: 1, k: 0 }, &[70_005, 70_007], 70_005),
+    ];
+    for (limit, misses, first) in rows {
+        let mut pattern = vec![HIT; 80_000];
+        misses.iter().for_each(|&job| pattern[job - 1] = MISS);
+        let want = floe::Verdict { job: 70_005, first, ..Default::default() };
+        assert_eq!(floe::verdict::judge(&sets::bytes(&[limit]), &pattern), want, "judge {limit:?}");
+    }
+}
+
 /// Job numbers that need more than 16 bits. Literal windows would take hours here, so the reference's table says
-/// which job loses the pattern, and literal windows only which limit, on the outcomes just before that job.
+/// which job loses the pattern, and literal windows only which limit and where, on the outcomes just before that job:
+/// "job j is one of its jobs".
 #[test]
 fn very_long_patterns() {
     let mut draw = Draw::new(13);
@@ -91,9 +141,11 @@ fn very_long_patterns() {
         let jobs = 65_500 + draw.below(4_000);
         let pattern = kept_then_misses(&mut draw, &states, jobs);
         let job = lost_job(&states, &pattern);
-        let before = &pattern[job.saturating_sub(40)..job];
+        let earlier = job.saturating_sub(40);
+        let before = &pattern[earlier..job];
         let limit = limits.iter().position(|&limit| !keeps(limit, before));
-        let want = expected::verdict(Ok(limit.map(|limit| Lost { job, limit })));
+        let lies = |limit: usize| Lost { job, limit, first: earlier as i64 + first(limits[limit], before) };
+        let want = expected::verdict(Ok(limit.map(lies)));
         assert_eq!(floe::verdict::judge(&sets::bytes(&limits), &pattern), want, "judge {limits:?}");
         lost += usize::from(job > 65_536);
     }

@@ -2,9 +2,9 @@
 
 use floelinnet_tests::draw::{cases, Draw};
 use floelinnet_tests::pages::pages;
-use floelinnet_tests::reference::limits::{allowed_limits, set_keeps, width, Limit};
+use floelinnet_tests::reference::limits::{allowed_limits, holds, set_keeps, width, Limit};
 use floelinnet_tests::reference::table::{bytes, check, states, State};
-use floelinnet_tests::reference::verdict::lost;
+use floelinnet_tests::reference::verdict::{lost, Lost};
 use floelinnet_tests::reference::{patterns_in_order, HIT, MISS};
 
 /// The rules with no machine: a state is what is kept after a pattern, as far as windows of `longest` jobs can tell.
@@ -70,8 +70,31 @@ fn pages_are_literal() {
     for _ in 0..cases(20) {
         let limits = draw.set();
         for (pattern, from_page) in pages().patterns.iter().zip(pages().verdicts(&limits)) {
-            let literal = lost(&limits, pattern).map(|lost| (lost.job, lost.limit));
-            assert_eq!(from_page, literal, "{limits:?} on {pattern:?}");
+            assert_eq!(from_page, lost(&limits, pattern), "{limits:?} on {pattern:?}");
         }
     }
+}
+
+/// The windows that fail, with the beginning laid between hits: the first of them is the one that is said, and in all of
+/// them "job j is one of its jobs".
+#[test]
+fn windows_that_fail() {
+    const HITS: usize = 20;
+    let mut draw = Draw::new(34);
+    let mut several = 0;
+    for _ in 0..cases(20_000) {
+        let limit = draw.limit();
+        let jobs = draw.below(30);
+        let pattern = draw.pattern(jobs, 3);
+        let Some(Lost { job, first, .. }) = lost(&[limit], &pattern) else { continue };
+        let around = [&[HIT; HITS], &pattern[..job], &[HIT; HITS]].concat();
+        let windows = around.windows(width(limit)).enumerate();
+        let fails: Vec<usize> =
+            windows.filter(|(_, window)| !holds(limit, window)).map(|(place, _)| place + 1).collect();
+        assert_eq!(fails[0] as i64 - HITS as i64, first, "{limit:?} on {pattern:?}");
+        let newest = HITS + job;
+        assert!(fails.iter().all(|&place| (place..place + width(limit)).contains(&newest)), "{limit:?} on {pattern:?}");
+        several += usize::from(fails.len() > 1);
+    }
+    assert!(several > 1000, "{several}");
 }

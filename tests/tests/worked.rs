@@ -26,10 +26,10 @@ fn pattern(digits: &str) -> Vec<u8> {
     digits.bytes().map(|digit| digit - b'0').collect()
 }
 
-/// `job` 0 says kept.
-fn judged(limit: Limit, digits: &str, job: usize) {
+/// None says kept, else the job at which it is lost and the first job of the window.
+fn judged(limit: Limit, digits: &str, want: Option<(usize, i64)>) {
     let pattern = pattern(digits);
-    let want = (job > 0).then_some(Lost { job, limit: 0 });
+    let want = want.map(|(job, first)| Lost { job, limit: 0, first });
     assert_eq!(lost(&[limit], &pattern), want, "{limit:?} on {digits}");
     let found = floe::verdict::judge(&sets::bytes(&[limit]), &pattern);
     assert_eq!(found, expected::verdict(Ok(want)), "{limit:?} on {digits}");
@@ -67,25 +67,26 @@ fn tables() {
 
 #[test]
 fn verdicts() {
-    judged(any_hit(2, 4), "11001101", 0);
-    judged(any_hit(1, 2), "11001101", 4);
+    judged(any_hit(2, 4), "11001101", None);
+    judged(any_hit(1, 2), "11001101", Some((4, 3)));
     for misses in 0..=4 {
-        judged(any_hit(3, 10), &("1010101001".to_owned() + &"0".repeat(misses)), 0);
+        judged(any_hit(3, 10), &("1010101001".to_owned() + &"0".repeat(misses)), None);
     }
-    judged(any_hit(3, 10), "101010100100000", 15);
-    judged(row_hit(4, 10), "1111111000", 0);
-    judged(row_hit(4, 10), "11111110000", 11);
-    judged(row_hit(3, 7), "0111000", 7);
-    judged(row_hit(2, 10), "1100101010", 10);
-    judged(any_miss(2, 5), "0011100", 0);
-    judged(any_miss(3, 7), "0011100", 7);
-    judged(any_miss(3, 7), "0001111", 0);
-    judged(any_miss(2, 5), "0001111", 3);
-    judged(row_miss(2), "0", 0);
-    judged(row_miss(2), "00", 2);
-    judged(row_hit(2, 5), "000", 3);
-    judged(row_hit(2, 5), "00011", 3);
-    judged(any_hit(1, 1), "", 0);
+    judged(any_hit(3, 10), "101010100100000", Some((15, 6)));
+    judged(row_hit(4, 10), "1111111000", None);
+    judged(row_hit(4, 10), "11111110000", Some((11, 5)));
+    judged(row_hit(3, 7), "0111000", Some((7, 3)));
+    judged(row_hit(2, 10), "1100101010", Some((10, 2)));
+    judged(any_miss(2, 5), "0011100", None);
+    judged(any_miss(3, 7), "0011100", Some((7, 1)));
+    judged(any_miss(3, 7), "0001111", None);
+    judged(any_miss(2, 5), "0001111", Some((3, -1)));
+    judged(row_miss(2), "0", None);
+    judged(row_miss(2), "00", Some((2, 1)));
+    judged(row_hit(2, 5), "000", Some((3, 0)));
+    judged(row_hit(2, 5), "00011", Some((3, 0)));
+    judged(any_hit(12, 12), "0", Some((1, -10)));
+    judged(any_hit(1, 1), "", None);
 }
 
 #[test]

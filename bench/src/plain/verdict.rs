@@ -3,11 +3,11 @@
 use super::sets::{read, Limit, Refusal};
 use super::{holds, width};
 
-/// The job at which the pattern is lost and the limit that doesn't keep it.
-pub type Lost = Option<(usize, usize)>;
+/// The job at which the pattern is lost, the limit that doesn't keep it and the first job of that limit's window.
+pub type Lost = Option<(usize, usize, i64)>;
 
 /// Each window of each limit once, over the whole pattern. Only a pattern that isn't kept is gone through again,
-/// job by job, for the job and the limit.
+/// job by job, for the job, the limit and the window.
 pub fn each_window_once(set: &[u8], pattern: &[u8]) -> Result<Lost, Refusal> {
     let (set, around) = prepare(set, pattern)?;
     Ok(windows_once(set.limits(), &around))
@@ -30,6 +30,9 @@ pub fn windows_over_each_job(set: &[u8], pattern: &[u8]) -> Result<Lost, Refusal
 
 fn prepare(set: &[u8], pattern: &[u8]) -> Result<(super::sets::Set, Vec<u8>), Refusal> {
     let set = read(set)?;
+    if i64::try_from(pattern.len()).is_err() {
+        return Err((26, 0));
+    }
     if let Some(place) = pattern.iter().position(|&outcome| outcome > 1) {
         return Err((13, place));
     }
@@ -46,8 +49,11 @@ fn job_by_job(limits: &[Limit], pattern: &[u8]) -> Lost {
         around[11] = outcome;
         for (number, limit) in limits.iter().enumerate() {
             let width = width(limit);
-            if !around[12 - width..11 + width].windows(width).all(|window| holds(limit, window)) {
-                return Some((place + 1, number));
+            let mut windows = around[12 - width..11 + width].windows(width);
+            if let Some(later) = windows.position(|window| !holds(limit, window)) {
+                // The first of these windows ends with this job, and each one begins a job later.
+                let job = place + 1;
+                return Some((job, number, (job + later) as i64 - width as i64 + 1));
             }
         }
     }

@@ -12,7 +12,7 @@
 //! | to | call |
 //! |---|---|
 //! | make a set of limits, or read one | [`LimitSet::new`], [`read_set`] |
-//! | judge a pattern that is over | [`judge`] |
+//! | judge a pattern that is over, and say where it broke | [`judge`] |
 //! | see whether one set demands as much as another | [`compare`] |
 //! | guard jobs while they run | [`build`] once, then [`Guard`], or [`row`] for several jobs with the same limits |
 //! | check a table that comes from elsewhere | [`check_table`] |

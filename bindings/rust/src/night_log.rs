@@ -49,14 +49,14 @@ pub fn write_log(pattern: &[u8], out: &mut [u8]) -> Result<usize, Refused> {
 /// Judges the outcomes that a night log holds, under the set in these bytes: the verdict that [`judge`](crate::judge)
 /// gives on the pattern of which it is the log.
 ///
-/// Refuses by 1 to 7 for the set, then by 15 and by 16 for the log.
+/// Refuses by 1 to 7 for the set, then by 15 and by 16 for the log, and never by 26: no log has so many outcomes.
 ///
 /// ```
 /// use floelinnet::{judge_log, Refused, Verdict};
 ///
 /// let any_hit_1_of_2 = [0, 0, 0, 5, 1, 1, 0, 1, 2];
 /// let log = [0, 0, 0, 6, 1, 0, 0, 0, 5, 0b1100_1000];
-/// assert_eq!(judge_log(&any_hit_1_of_2, &log)?, Verdict::Lost { job: 4, limit: 0 });
+/// assert_eq!(judge_log(&any_hit_1_of_2, &log)?, Verdict::Lost { job: 4, limit: 0, first: 3 });
 /// assert_eq!(judge_log(&any_hit_1_of_2, &log[..9]), Err(Refused::Log));
 /// # Ok::<(), Refused>(())
 /// ```

@@ -101,6 +101,9 @@ answers! {
         job: u64,
         /// The lowest-numbered limit, from 0, that doesn't keep the pattern up to that job; 0 where it isn't lost.
         limit: u64,
+        /// The first job of that limit's earliest window that fails, with hits around the pattern up to that job. It may
+        /// lie before job 1. 0 where the pattern isn't lost.
+        first: i64,
     }
     /// What [`compare`] answers.
     Comparison {

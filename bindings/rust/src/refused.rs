@@ -58,10 +58,12 @@ pub enum Refused {
     Log,
     /// 16: the low bits of the log's last byte that no outcome takes aren't all zero.
     UnusedBits,
+    /// 26: the pattern that is to be judged has more than 9,223,372,036,854,775,807 outcomes. No slice is so long.
+    PatternLength,
 }
 
 impl Refused {
-    /// The number of the refusal, 1 to 16.
+    /// The number of the refusal, 1 to 16 or 26.
     pub fn number(self) -> u8 {
         match self {
             Refused::SetLength => 1,
@@ -80,6 +82,7 @@ impl Refused {
             Refused::Job => 14,
             Refused::Log => 15,
             Refused::UnusedBits => 16,
+            Refused::PatternLength => 26,
         }
     }
 
@@ -128,6 +131,7 @@ impl fmt::Display for Refused {
                  or the pattern has more than 4294967295 outcomes",
             ),
             Refused::UnusedBits => f.write_str("the unused low bits of the log's last byte aren't all zero"),
+            Refused::PatternLength => f.write_str("the pattern has more than 9223372036854775807 outcomes"),
         }
     }
 }
@@ -155,6 +159,21 @@ pub(crate) fn accepted(refused: u64, at: u64) -> Result<(), Refused> {
         14 => Refused::Job,
         15 => Refused::Log,
         16 => Refused::UnusedBits,
+        26 => Refused::PatternLength,
         number => crate::no_such("refusal", number),
     })
+}
+
+#[cfg(test)]
+mod tests {
+    use super::*;
+
+    /// 26 is among them, which no call through a slice can give.
+    #[test]
+    fn each_number_is_its_own() {
+        for number in (1..=16).chain([26]) {
+            assert_eq!(accepted(number, 7).map_err(Refused::number), Err(number as u8));
+        }
+        assert_eq!(accepted(26, 0), Err(Refused::PatternLength));
+    }
 }

@@ -38,8 +38,12 @@ fn of_judge() {
     assert_eq!(judge(&ALL_KINDS, &[]), Ok(Verdict::Kept));
     assert_eq!(judge(&ALL_KINDS, &[1, 0, 1, 1, 0]).unwrap().to_string(), "kept");
     let lost = judge(&ALL_KINDS, &[1, 1, 0, 1, 0]).unwrap();
-    assert_eq!(lost, Verdict::Lost { job: 5, limit: 1 });
-    assert_eq!(lost.to_string(), "lost at job 5 by limit 1");
+    assert_eq!(lost, Verdict::Lost { job: 5, limit: 1, first: 2 });
+    assert_eq!(lost.to_string(), "lost at job 5 by limit 1, in the window from job 2");
+    let all_of_12 = [0, 0, 0, 5, 1, 1, 0, 12, 12];
+    let lost = judge(&all_of_12, &[0]).unwrap();
+    assert_eq!(lost, Verdict::Lost { job: 1, limit: 0, first: -10 });
+    assert_eq!(lost.to_string(), "lost at job 1 by limit 0, in the window from job -10");
 }
 
 #[test]
@@ -54,7 +58,7 @@ fn of_compare() {
     let pattern = between(&any_miss_2_of_5, &any_miss_3_of_7);
     assert_eq!(*pattern, [0, 0, 1, 1, 1, 0, 0]);
     assert_eq!(format!("{pattern:?}"), "[0, 0, 1, 1, 1, 0, 0]");
-    assert_eq!(judge(&any_miss_3_of_7, &pattern), Ok(Verdict::Lost { job: 7, limit: 0 }));
+    assert_eq!(judge(&any_miss_3_of_7, &pattern), Ok(Verdict::Lost { job: 7, limit: 0, first: 1 }));
     assert_eq!(*between(&any_miss_3_of_7, &any_miss_2_of_5), [0, 0, 0]);
 }
 

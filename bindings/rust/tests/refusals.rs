@@ -93,6 +93,12 @@ fn of_outcomes() {
     says(guard.tell(&TABLE, 2).unwrap_err(), 13, 0, "the outcome at place 0 is neither 0 nor 1");
 }
 
+/// No slice is so long that a call would say so.
+#[test]
+fn of_patterns_that_are_too_long() {
+    says(Refused::PatternLength, 26, 0, "the pattern has more than 9223372036854775807 outcomes");
+}
+
 #[test]
 fn of_rows() {
     let words = "the job's number isn't below the row's count of guards, or the row has more than 16";

@@ -89,6 +89,23 @@ fn empty_logs() {
     }
 }
 
+/// The window of a lost log, by hand: it begins in the log, with job 0, and before that.
+#[test]
+fn windows() {
+    let rows: [(Limit, &[u8], u64, i64); 5] = [
+        (Limit { kind: 3, x: 2, k: 0 }, &[0, 0], 2, 1),
+        (Limit { kind: 1, x: 2, k: 5 }, &[0, 0, 0], 3, 0),
+        (Limit { kind: 2, x: 2, k: 5 }, &[0, 0, 0, 1, 1, 1, 1], 3, -1),
+        (Limit { kind: 0, x: 12, k: 12 }, &[0], 1, -10),
+        // Jobs 7 to 11 lie in two bytes.
+        (Limit { kind: 2, x: 1, k: 5 }, &[1, 1, 1, 1, 1, 1, 0, 1, 1, 1, 0, 0], 11, 7),
+    ];
+    for (limit, pattern, job, first) in rows {
+        let verdict = floe::log::judge(&sets::bytes(&[limit]), &night_log::log(pattern));
+        assert_eq!(verdict, floe::Verdict { job, first, ..Default::default() }, "{limit:?} on {pattern:?}");
+    }
+}
+
 /// A set for each of 1 to 7 and one that is allowed, with a log refused by 15, by 16, by both, and by neither.
 #[test]
 fn order_of_the_tests() {
@@ -117,7 +134,8 @@ fn order_of_the_tests() {
         }
     }
     // AnyHit(1,1) loses 010 at its first job, and keeps 111.
-    assert_eq!(floe::log::judge(sets[8].0, logs[3].0).job, 1);
+    let lost = floe::Verdict { job: 1, first: 1, ..Default::default() };
+    assert_eq!(floe::log::judge(sets[8].0, logs[3].0), lost);
     assert_eq!(floe::log::judge(sets[8].0, logs[4].0).kept, 1);
 }
 

@@ -58,7 +58,7 @@ fn the_longest_log() {
         assert_eq!(floe::log::next(place, &log), read(2, place), "place {place}");
     }
     // Lost at once, so that the other outcomes aren't looked at; judging them all would take minutes.
-    let lost = floe::Verdict { job: 1, ..Default::default() };
+    let lost = floe::Verdict { job: 1, first: 1, ..Default::default() };
     assert_eq!(floe::log::judge(ANY_HIT_1_1, &log), lost);
     // The lowest bit of the last byte is the one that isn't used.
     log[LONGEST - 1] = 0b11;
