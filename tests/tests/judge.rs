@@ -130,7 +130,7 @@ fn windows_far_into_a_pattern() {
 
 /// Job numbers that need more than 16 bits. Literal windows would take hours here, so the reference's table says
 /// which job loses the pattern, and literal windows only which limit and where, on the outcomes just before that job:
-/// "job j is one of its jobs".
+/// "job j lies in the window".
 #[test]
 fn very_long_patterns() {
     let mut draw = Draw::new(13);

@@ -76,7 +76,7 @@ fn pages_are_literal() {
 }
 
 /// The windows that fail, with the beginning laid between hits: the first of them is the one that is said, and in all of
-/// them "job j is one of its jobs".
+/// them "job j lies in the window".
 #[test]
 fn windows_that_fail() {
     const HITS: usize = 20;

@@ -106,15 +106,19 @@ module _ (w : ℕ) (s : LimitSet) (ok : SetAllowed w s) (p : List Bool) (j i : �
       go false e = e
       go true e = absurd (lost .lost (subst (λ z. KeptBy s z) (sym e) (kept-by-hit s (take (j - 1) p) (lost .shortest (j - 1) (omega (arith, lost-after))))))
 
-  -- RULES, Lost: "job j lies in the window"
-  pub lost-in-window : (first : ℤ) → BrokenFrom (ruleAt s i) (take j p) first → (n : ℕ) × (n < width (ruleAt s i)) × (first +ℤ pos n ≡ pos j)
-  lost-in-window first (a, b, e) =
+  -- every window that fails has the losing job in it: it begins with that job, or fewer jobs before it than a window has
+  pub lost-in-each : (a : ℤ) → (Holds (ruleAt s i) (window (around (take j p)) a (width (ruleAt s i))) → ⊥) → (n : ℕ) × (n < width (ruleAt s i)) × (jobAt a +ℤ pos n ≡ pos j)
+  lost-in-each a fails =
       let before = take (j - 1) p in
       let l = ruleAt s i in
       let kept : Kept l before = lost .shortest (j - 1) (omega (arith, lost-after)) i (lost-of-the-set s p j i lost) in
-      let (n, h, f) = broken-over l before kept a (subst (λ z. Holds l (window (around z) a (width l)) → ⊥) losing-miss (b .broken)) in
+      let (n, h, f) = broken-over l before kept a (subst (λ z. Holds l (window (around z) a (width l)) → ⊥) losing-miss fails) in
       let long : length before + 1 ≡ j = omega (arith, length-take (j - 1) p, lost-after, lost-within s p j i lost) in
-      (n, h, ap (λ z. z +ℤ pos n) e ∙ steps-swap a (pos 1) (pos n) ∙ ap (λ z. z +ℤ pos 1) f ∙ ap pos long)
+      (n, h, steps-swap a (pos 1) (pos n) ∙ ap (λ z. z +ℤ pos 1) f ∙ ap pos long)
+
+  -- RULES, Lost: "job j lies in the window"
+  pub lost-in-window : (first : ℤ) → BrokenFrom (ruleAt s i) (take j p) first → (n : ℕ) × (n < width (ruleAt s i)) × (first +ℤ pos n ≡ pos j)
+  lost-in-window first (a, b, e) = let (n, h, f) = lost-in-each a (b .broken) in (n, h, ap (λ z. z +ℤ pos n) e ∙ f)
 
   -- and there is such a job
   pub lost-from : (first : ℤ) × LostFrom s p j i first
