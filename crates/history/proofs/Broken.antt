@@ -13,7 +13,7 @@ use Rattle.meaning.specs.Kept.{Kept}
 use Rattle.meaning.specs.Broken.{EarliestBroken}
 use Rattle.meaning.proofs.Widths.{width-allowed}
 use Rattle.meaning.proofs.Earliest.{earliest-over}
-use Rattle.history.specs.History.{historyOf, newest}
+use Rattle.history.specs.History.{historyOf}
 use Rattle.history.specs.Reaches.{overMiss, Reaches}
 use Rattle.history.proofs.Histories.{newest-history}
 

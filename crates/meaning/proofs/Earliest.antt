@@ -3,14 +3,13 @@ use mathlib.Core.Path.{_≡_, refl, sym, ap, _∙_, subst}
 use mathlib.Core.Logic.{dite}
 use mathlib.Core.Bool.{Bool, true, false}
 use mathlib.Core.List.{List, [], _∷_, _++_}
-use Prim.Native.Nat.{ℕ, zero, suc, _+_, _-_, _≤_, _<_}
+use Prim.Native.Nat.{ℕ, suc, _+_, _-_, _≤_, _<_}
 use native.Mathlib.Decide.{decLt}
 use native.Mathlib.Omega.{arith}
 use lib.Dec.{T}
 use lib.ListN.{length, getD, take, replicate, length-take}
 use lib.Seq.{take-suc}
-use lib.IntN.{ℤ, pos, negsuc, _+ℤ_, _-ℤ_, +ℤ-assoc, +ℤ-comm, -ℤ-+ℤ-cancel, +ℤ-negℤ-cancel}
-use lib.Signed.{_<ℤ_}
+use lib.IntN.{ℤ, pos, _+ℤ_, _-ℤ_, +ℤ-assoc, -ℤ-+ℤ-cancel}
 use Rattle.meaning.specs.declared.LimitSet.{LimitSet}
 use Rattle.meaning.specs.Limit.{Rule, RuleAllowed, width}
 use Rattle.meaning.specs.Window.{around, window, recent}
@@ -18,10 +17,10 @@ use Rattle.meaning.specs.Holds.{Holds}
 use Rattle.meaning.specs.Kept.{Kept}
 use Rattle.meaning.specs.Sets.{SetAllowed, KeptBy, LostAt, ruleAt}
 use Rattle.meaning.specs.Broken.{EarliestBroken, jobAt, BrokenFrom, LostFrom}
-use Rattle.meaning.specs.Test.{every, windowTest, keptTest}
+use Rattle.meaning.specs.Test.{windowTest}
 use Rattle.meaning.proofs.Places.{same-place, earlier-by, steps-swap, steps-from, place-counted, place-before}
 use Rattle.meaning.proofs.MissMore.{Near, apart, over, near, over-width}
-use Rattle.meaning.proofs.Decide.{holds-iff, kept-iff, every-at, neg-back, window-early}
+use Rattle.meaning.proofs.Decide.{holds-iff, kept-iff, window-early}
 use Rattle.meaning.proofs.Search.{least-false}
 use Rattle.meaning.proofs.SetLaws.{all-hits-hold, kept-by-empty, kept-by-hit}
 use Rattle.meaning.proofs.Unique.{lost-job, lost-limit, lost-within, lost-of-the-set}

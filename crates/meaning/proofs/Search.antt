@@ -1,7 +1,7 @@
 -- Whether a set keeps a pattern is decided by a test; where it doesn't, the limit and the window that break are found, and the beginning where it is lost. Assumes nothing.
 use mathlib.Core.Path.{_≡_, refl, sym, _∙_, subst}
 use mathlib.Core.Logic.{_↔_}
-use mathlib.Core.Bool.{Bool, true, false, _&&_}
+use mathlib.Core.Bool.{Bool, true, false}
 use mathlib.Core.List.{List, [], _∷_, _++_, append-assoc, append-nil}
 use Prim.Native.Nat.{ℕ, zero, suc, _+_, _<_}
 use native.Mathlib.Omega.{arith}
@@ -18,18 +18,7 @@ use Rattle.meaning.specs.Test.{every, windowTest, keptTest, keptByTest}
 use Rattle.meaning.proofs.Decide.{and-T, T-of, holds-iff, kept-iff, every-at, every-from}
 use Rattle.meaning.proofs.SetLaws.{kept-by-hit}
 
--- a test that fails somewhere below n fails at some number
-pub find-false : (n : ℕ) (f : ℕ → Bool) → (T (every n f) → ⊥) → (j : ℕ) × (j < n) × (T (f j) → ⊥)
-find-false zero f h = absurd (h tt)
-find-false (suc n) f h = go (f n) refl (find-false n f)
-  where
-    go : (b : Bool) → f n ≡ b → ((T (every n f) → ⊥) → (j : ℕ) × (j < n) × (T (f j) → ⊥)) → (j : ℕ) × (j < suc n) × (T (f j) → ⊥)
-    go false e r = (n, omega arith, λ t. subst (λ z. T z) e t)
-    go true e r =
-        let (j, l, g) = r (λ t. h (subst (λ z. T (z && every n f)) (sym e) t)) in
-        (j, omega arith, g)
-
--- and the least such number is one before which it doesn't
+-- a test that fails somewhere below n fails at a least number
 pub least-false : (n : ℕ) (f : ℕ → Bool) → (T (every n f) → ⊥) → (j : ℕ) × (j < n) × (T (f j) → ⊥) × ((i : ℕ) → i < j → T (f i))
 least-false zero f h = absurd (h tt)
 least-false (suc n) f h = go (every n f) refl (least-false n f)
@@ -54,13 +43,13 @@ kept-by-dec s p = go (keptByTest s p) refl
 -- a limit that breaks
 pub breaking-limit : (s : LimitSet) (p : List Bool) → (KeptBy s p → ⊥) → (i : ℕ) × (i < s .count) × (Kept (ruleAt s i) p → ⊥)
 breaking-limit s p h =
-    let (i, l, f) = find-false (s .count) (λ i. keptTest (ruleAt s i) p) (λ t. h (kept-by-iff s p .0 t)) in
+    let (i, l, f, _) = least-false (s .count) (λ i. keptTest (ruleAt s i) p) (λ t. h (kept-by-iff s p .0 t)) in
     (i, l, λ k. f (kept-iff (ruleAt s i) p .1 k))
 
 -- a window that breaks
 pub breaking-window : (l : Rule) (p : List Bool) → (Kept l p → ⊥) → (i : ℤ) × (Holds l (window (around p) i (width l)) → ⊥)
 breaking-window l p h =
-    let (j, b, f) = find-false (suc (width l + length p)) (windowTest l p) (λ t. h (kept-iff l p .0 t)) in
+    let (j, b, f, _) = least-false (suc (width l + length p)) (windowTest l p) (λ t. h (kept-iff l p .0 t)) in
     (pos j -ℤ pos (width l), λ k. f (holds-iff l _ .1 k))
 
 -- a pattern that isn't kept has a kept beginning after which a miss loses it
