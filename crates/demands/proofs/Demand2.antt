@@ -16,7 +16,7 @@ use Rattle.machines.specs.Machine.{walk, Can}
 use Rattle.meaning.specs.declared.LimitSet.{LimitSet}
 use Rattle.meaning.specs.Longest.{longest}
 use Rattle.meaning.specs.Limit.{width}
-use Rattle.meaning.specs.Sets.{KeptBy, ruleAt}
+use Rattle.meaning.specs.Sets.{SetAllowed, KeptBy, ruleAt}
 use Rattle.meaning.specs.Broken.{LostFrom}
 use Rattle.meaning.specs.Covers.{FirstBetween}
 use Rattle.meaning.specs.Covers as meant
@@ -84,6 +84,12 @@ module _ (rows : List Row) (s : LimitSet) (p : List Bool) (r : Judgement) (judge
           cc
       go (Refused n u) e v l = absurd (passed-not-refused (sym e))
 
+  -- the losing job is one of the window that is said, so the window begins with it or fewer jobs before it than a window has
+  judged-window : (first rows ≡ passed → SetAllowed longest s) → (j i : ℕ) (from : ℤ) → r ≡ Lost j i from → (n : ℕ) × (n < width (ruleAt s i)) × (from +ℤ pos n ≡ pos j)
+  judged-window allowed j i from e =
+      let (tested, (lost, window)) = judged-lost j i from .0 e in
+      lost-in-window longest s (allowed tested) p j i lost from window
+
 -- The verdict on a pattern: the set is accepted, and the outcomes are 0 and 1 and not too many.
 module _ (set pattern : List ℕ) (r : Judgement) (judged : JudgedAs longest set pattern r) where
   pub verdict-kept : (r ≡ Kept) ↔ ((first (judgeRows longest set pattern) ≡ passed) × KeptBy (setOf set) (outcomes pattern))
@@ -92,11 +98,10 @@ module _ (set pattern : List ℕ) (r : Judgement) (judged : JudgedAs longest set
   pub verdict-lost : (j i : ℕ) (from : ℤ) → (r ≡ Lost j i from) ↔ ((first (judgeRows longest set pattern) ≡ passed) × LostFrom (setOf set) (outcomes pattern) j i from)
   verdict-lost = judged-lost (judgeRows longest set pattern) (setOf set) (outcomes pattern) r judged
 
-  -- the losing job is one of the window that is said, so the window begins with it or fewer jobs before it than a window has
   pub verdict-window : (j i : ℕ) (from : ℤ) → r ≡ Lost j i from → (n : ℕ) × (n < width (ruleAt (setOf set) i)) × (from +ℤ pos n ≡ pos j)
-  verdict-window j i from e =
-      let (tested, (lost, window)) = verdict-lost j i from .0 e in
-      lost-in-window longest (setOf set) (accepted-allowed longest set (all-passed (setRows longest set) (patternRows pattern) tested .0)) (outcomes pattern) j i lost from window
+  verdict-window =
+      judged-window (judgeRows longest set pattern) (setOf set) (outcomes pattern) r judged
+      (λ t. accepted-allowed longest set (all-passed (setRows longest set) (patternRows pattern) t .0))
 
 -- The verdict on a night log: the set is accepted and the bytes are a log.
 module _ (set log : List ℕ) (r : Judgement) (judged : LogJudgedAs longest set log r) where
@@ -107,9 +112,9 @@ module _ (set log : List ℕ) (r : Judgement) (judged : LogJudgedAs longest set 
   log-verdict-lost = judged-lost (logJudgeRows longest set log) (setOf set) (outcomesOf log) r judged
 
   pub log-verdict-window : (j i : ℕ) (from : ℤ) → r ≡ Lost j i from → (n : ℕ) × (n < width (ruleAt (setOf set) i)) × (from +ℤ pos n ≡ pos j)
-  log-verdict-window j i from e =
-      let (tested, (lost, window)) = log-verdict-lost j i from .0 e in
-      lost-in-window longest (setOf set) (accepted-allowed longest set (all-passed (setRows longest set) (logRows log) tested .0)) (outcomesOf log) j i lost from window
+  log-verdict-window =
+      judged-window (logJudgeRows longest set log) (setOf set) (outcomesOf log) r judged
+      (λ t. accepted-allowed longest set (all-passed (setRows longest set) (logRows log) t .0))
 
 -- The comparison says yes exactly when both sets are accepted and the first covers the second, and else its pattern is exactly the first one between them, of no more jobs than the longest window.
 module _ (a b : List ℕ) (r : Compared) (compared : ComparedAs longest a b r) where
