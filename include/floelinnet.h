@@ -205,9 +205,9 @@ FLOE_NODISCARD floe_written floe_write_set(floe_set set, uint8_t *bytes, size_t 
  * that doesn't keep the pattern up to that job. Both are 0 where nothing is lost.
  * first: where it is lost, where to look. With endless hits before and after the pattern up to that job, the earliest
  * window of that limit that fails begins with this job. The job at which the pattern is lost lies in this window, so
- * first is at most 11 less. The pattern begins with job 1; jobs 0, -1, -2 and so on, to -10 at the most, are hits that
- * count as standing before it. first is 0 where nothing is lost; but a window may begin with job 0, so look at refused,
- * and at kept or job, before it.
+ * first is at most 11 less than job. The pattern begins with job 1; jobs 0, -1, -2 and so on, down to -10, are hits
+ * that count as standing before it. first is 0 where nothing is lost; but a window may begin with job 0, so look at
+ * refused, and at kept or job, before it.
  *
  * Refuses by 1 to 7 for the set, then by 26 and then by 13 for the pattern: all of its outcomes are tested, even if it
  * is lost earlier.

@@ -1,8 +1,8 @@
 /*
  * How much stack each function uses: it is called on a stack that was painted before, and what is no longer painted was
- * used. Counted from a call that does nothing, with the record of the answer, the larger of two calls: one that is
- * answered and one that is refused, and of verdicts one that is kept and one that is lost at its last job. Linked with
- * -z now, so that the dynamic linker's own stack isn't counted.
+ * used. Counted from a call that does nothing, with the record of the answer, the most of several calls: one that is
+ * answered and one that is refused, and of verdicts one that is lost besides. Linked with -z now, so that the dynamic
+ * linker's own stack isn't counted.
  */
 #define _XOPEN_SOURCE 700
 #include <floelinnet.h>
@@ -21,7 +21,8 @@ static uint8_t set[FLOE_LONGEST_SET], other[] = {0, 0, 0, 5, 1, 1, FLOE_ANY_HIT,
 static uint16_t work[FLOE_WORK_ENTRIES];
 static size_t set_len, table_len;
 static const uint8_t pattern[] = {0, 0, 1, 0, 1, 1, 0, 0, 1, 0, 1, 1, 1, 1, 0, 1, 0, 1, 1, 0};
-static const uint8_t lost[] = {0, 0, 1, 0, 1, 1, 0, 0, 1, 0, 1, 1, 1, 1, 0, 1, 0, 1, 1, 0, 0, 0, 0};
+/* By RowHit(2,9), whose window is looked for in the history. */
+static const uint8_t lost[] = {0, 0, 1, 0, 1, 1, 0, 0, 1, 0, 1, 1, 1, 1, 0, 1, 0, 1, 1, 0, 0, 0, 1, 0, 0, 0};
 static floe_guard row[FLOE_MOST_GUARDS], guard;
 static uint8_t night[FLOE_LOG_SIZE(sizeof pattern)], spare[FLOE_LOG_SIZE(sizeof pattern)];
 static uint8_t lost_night[FLOE_LOG_SIZE(sizeof lost)];
@@ -36,7 +37,8 @@ CALL(floe_read_set, 1, floe_read_set(set, set_len - 1))
 CALL(floe_write_set, 0, floe_write_set(all_kinds, set, sizeof set))
 CALL(floe_write_set, 1, floe_write_set(all_kinds, set, 0))
 CALL(floe_judge, 0, floe_judge(set, set_len, pattern, sizeof pattern))
-CALL(floe_judge, 1, floe_judge(set, set_len, lost, sizeof lost))
+CALL(floe_judge, 1, floe_judge(set, set_len, set, set_len))
+CALL(floe_judge, 2, floe_judge(set, set_len, lost, sizeof lost))
 CALL(floe_compare, 0, floe_compare(set, set_len, other, sizeof other))
 CALL(floe_compare, 1, floe_compare(other, sizeof other, other, sizeof other))
 CALL(floe_build, 0, floe_build(set, set_len, work, FLOE_WORK_ENTRIES, table, sizeof table))
@@ -62,7 +64,8 @@ CALL(floe_log_open, 1, floe_log_open(night, sizeof night - 1))
 CALL(floe_log_next, 0, floe_log_next(sizeof pattern - 1, night, sizeof night))
 CALL(floe_log_next, 1, floe_log_next(0, night, sizeof night - 1))
 CALL(floe_log_judge, 0, floe_log_judge(set, set_len, night, sizeof night))
-CALL(floe_log_judge, 1, floe_log_judge(set, set_len, lost_night, sizeof lost_night))
+CALL(floe_log_judge, 1, floe_log_judge(set, set_len, night, sizeof night - 1))
+CALL(floe_log_judge, 2, floe_log_judge(set, set_len, lost_night, sizeof lost_night))
 
 static void nothing(void) {
     used_up = 0;
@@ -81,12 +84,16 @@ static size_t used(void (*call)(void)) {
     return sizeof stack - free;
 }
 
-static void say(const char *name, void (*one)(void), void (*other_one)(void)) {
-    size_t a = used(one), b = used(other_one);
-    printf("%s %zu\n", name, (a > b ? a : b) - used(nothing));
+static size_t more(size_t a, size_t b) {
+    return a > b ? a : b;
 }
 
-#define SAY(name) say(#name, name##_0, name##_1)
+static void say(const char *name, size_t most) {
+    printf("%s %zu\n", name, most - used(nothing));
+}
+
+#define SAY(name) say(#name, more(used(name##_0), used(name##_1)))
+#define SAY_VERDICT(name) say(#name, more(more(used(name##_0), used(name##_1)), used(name##_2)))
 
 int main(void) {
     set_len = floe_write_set(all_kinds, set, sizeof set).length;
@@ -95,10 +102,11 @@ int main(void) {
     size_t lost_len = floe_log_write(lost, sizeof lost, lost_night, sizeof lost_night).length;
     if (table_len == 0 || night_len != sizeof night || lost_len != sizeof lost_night) return 1;
     if (floe_judge(set, set_len, pattern, sizeof pattern).kept != 1) return 1;
-    if (floe_judge(set, set_len, lost, sizeof lost).job != sizeof lost) return 1;
+    floe_verdict verdict = floe_judge(set, set_len, lost, sizeof lost);
+    if (verdict.job != sizeof lost || all_kinds.limits[verdict.limit].kind != FLOE_ROW_HIT) return 1;
     SAY(floe_read_set);
     SAY(floe_write_set);
-    SAY(floe_judge);
+    SAY_VERDICT(floe_judge);
     SAY(floe_compare);
     SAY(floe_build);
     SAY(floe_check_table);
@@ -111,6 +119,6 @@ int main(void) {
     SAY(floe_log_write);
     SAY(floe_log_open);
     SAY(floe_log_next);
-    SAY(floe_log_judge);
+    SAY_VERDICT(floe_log_judge);
     return 0;
 }

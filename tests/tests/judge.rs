@@ -9,9 +9,9 @@ use floelinnet_tests::reference::{sets, table, HIT, MISS};
 use floelinnet_tests::{expected, floe};
 
 fn agree(set: &[u8], pattern: &[u8]) -> floe::Verdict {
-    let want = expected::verdict(judge(set, pattern));
-    assert_eq!(floe::verdict::judge(set, pattern), want, "judge {set:02X?} on {pattern:?}");
-    want
+    let found = floe::verdict::judge(set, pattern);
+    assert_eq!(found, expected::verdict(judge(set, pattern)), "judge {set:02X?} on {pattern:?}");
+    found
 }
 
 /// All 8,191 patterns of at most 12 jobs.

@@ -56,7 +56,7 @@ use Rattle.demands.proofs.Tables.{made-walks-kept}
 use Rattle.demands.proofs.Guarded.{answers-by-meaning, heeded-kept, kept-not-lost as guard-not-lost, hits-bring-fresh, lost-state}
 use Rattle.demands.proofs.Answers.{both-accepted}
 
--- A verdict says kept exactly when the rows before it are passed and the set keeps the outcomes, and lost at a job by a limit whose earliest broken window begins with a job exactly as that is meant.
+-- A verdict says kept exactly when the rows before it are passed and the set keeps the outcomes, and lost, with the job, the limit and the first job of the window, exactly as that is meant.
 module _ (rows : List Row) (s : LimitSet) (p : List Bool) (r : Judgement) (judged : JudgedBy rows s p r) where
   judged-kept : (r ≡ Kept) ↔ ((first rows ≡ passed) × KeptBy s p)
   judged-kept = (

@@ -18,8 +18,8 @@ use Rattle.history.specs.Reaches.{overMiss, Reaches}
 use Rattle.history.proofs.Histories.{newest-history}
 
 module _ (m : ℕ) (p : List Bool) (l : Rule) (ok : RuleAllowed (suc m) l) where
-  over-recent : (a b : ℕ) → width l ≡ a + suc b → overMiss (width l) a (historyOf m p) ≡ recent p a ++ (false ∷ replicate b true)
-  over-recent a b e =
+  over-miss : (a b : ℕ) → width l ≡ a + suc b → overMiss (width l) a (historyOf m p) ≡ recent p a ++ (false ∷ replicate b true)
+  over-miss a b e =
       let rest : width l - suc a ≡ b = omega arith in
       let before = ap reverse (newest-history m p a (omega (arith, width-allowed (suc m) l ok .1))) ∙ reverse-reverse (recent p a) in
       ap₂ (λ w r. w ++ (false ∷ replicate r true)) before rest
@@ -28,5 +28,5 @@ module _ (m : ℕ) (p : List Bool) (l : Rule) (ok : RuleAllowed (suc m) l) where
   reaches-earliest n kept r =
       let b = width l - suc n in
       let e : width l ≡ n + suc b = omega (arith, r .within) in
-      earliest-over l p kept n b e (λ h. r .broken (subst (Holds l) (sym (over-recent n b e)) h))
-      (λ a c h f. subst (Holds l) (over-recent a c f) (r .farthest a h (omega arith)))
+      earliest-over l p kept n b e (λ h. r .broken (subst (Holds l) (sym (over-miss n b e)) h))
+      (λ a c h f. subst (Holds l) (over-miss a c f) (r .farthest a h (omega arith)))

@@ -43,10 +43,10 @@ pub record Passed (x h i rest run : ℕ) : Type 0 where
   pub ends : startsWith 1 older ≡ false
   pub none : hasRun x older ≡ false
 
-pub passed-first : (x h : ℕ) → 0 < x → Passed x h 0 h 0
+pub none-passed : (x h : ℕ) → 0 < x → Passed x h 0 h 0
 unfolding newest
-passed-first zero h l = absurd (omega arith)
-passed-first (suc x) h l = record { left = sym (div-one h); older = []; front = refl; ends = refl; none = refl }
+none-passed zero h l = absurd (omega arith)
+none-passed (suc x) h l = record { left = sym (div-one h); older = []; front = refl; ends = refl; none = refl }
 
 module _ {x h i rest run : ℕ} (p : Passed x h i rest run) where
   pub passed-row : x ≤ run → hasRun x (newest i h) ≡ true

@@ -1,4 +1,4 @@
--- Which window a miss that can't follow breaks first. RULES, Lost: "Of the windows of that limit that then fail, the earliest is said by its first job."
+-- The earliest window that is broken by a miss that can't follow. RULES, Lost: "Of the windows of that limit that then fail, the earliest is said by its first job."
 -- Every window that it breaks has the miss in it, so the earliest is the one with the most outcomes before the miss.
 use mathlib.Core.Bool.{Bool, true, false}
 use mathlib.Core.List.{List, _∷_, _++_, reverse}

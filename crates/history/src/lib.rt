@@ -1,6 +1,6 @@
 // The history machine of a set: its state is the last outcomes in a number, the newest in the low bit.
 // A hit is always possible; whether a miss is, this crate says from the history alone, limit by limit.
-// How long a history has to be for a limit, `reach` says, and how far back the window begins that a miss breaks first, `broken_reach`.
+// How long a history has to be for a limit, `reach` says, and how far back the earliest window begins that a miss breaks, `broken_reach`.
 ghost use mathlib.Core.Path.{_≡_};
 ghost use mathlib.Core.Bool.{true, false, cond};
 ghost use Prim.Native.Nat.{ℕ, _+_, _-_, _%_, _^_, _≤_, _<_};
@@ -134,7 +134,7 @@ pub fn reach(limit: Limit) -> usize
 }
 
 // The length of a run of hits after one more outcome: a miss ends it.
-fn run_after(run: u8, hit: bool) -> u8
+fn next_run(run: u8, hit: bool) -> u8
     requires { ⌜ run < 255 ⌝ }
     ensures { λ r. ⌜ r ≡ cond hit (run + 1) 0 ⌝ }
 {
@@ -153,7 +153,7 @@ fn before_row(history: u16, n: u8, x: u8) -> u8
     let mut run = 0;
     let mut passed = 0;
     while passed < n {
-        run = run_after(run, rest % 2 == 1);
+        run = next_run(run, rest % 2 == 1);
         if x <= run {
             return passed;
         }

@@ -22,14 +22,14 @@ use Rattle.meaning.proofs.Places.{same-place, earlier-by, steps-swap, s
 use Rattle.meaning.proofs.MissMore.{Near, apart, over, near, over-width}
 use Rattle.meaning.proofs.Decide.{holds-iff, kept-iff, window-early}
 use Rattle.meaning.proofs.Search.{least-false}
-use Rattle.meaning.proofs.SetLaws.{all-hits-hold, kept-by-empty, kept-by-hit}
-use Rattle.meaning.proofs.Unique.{lost-job, lost-limit, lost-within, lost-of-the-set}
+use Rattle.meaning.proofs.SetLaws.{all-hits-hold, kept-by-hit}
+use Rattle.meaning.proofs.Unique.{lost-job, lost-limit, lost-within, lost-job-from-1, lost-of-the-set}
 
 -- there is only one
 pub earliest-one : (l : Rule) (p : List Bool) (i j : ℤ) → EarliestBroken l p i → EarliestBroken l p j → i ≡ j
 earliest-one l p i j a b = same-place i j (λ h. a .broken (b .none-earlier i h)) (λ h. b .broken (a .none-earlier j h))
 
-pub broken-from-one : (l : Rule) (p : List Bool) (f g : ℤ) → BrokenFrom l p f → BrokenFrom l p g → f ≡ g
+broken-from-one : (l : Rule) (p : List Bool) (f g : ℤ) → BrokenFrom l p f → BrokenFrom l p g → f ≡ g
 broken-from-one l p f g (i, a, e) (j, b, h) = e ∙ ap jobAt (earliest-one l p i j a b) ∙ sym h
 
 -- wherever and by whatever the pattern is lost
@@ -62,7 +62,7 @@ earliest-broken w l p a h =
 
 module _ (l : Rule) (p : List Bool) (kept : Kept l p) where
   -- a window that fails has the miss in it
-  pub broken-over : (i : ℤ) → (Holds l (window (around (p ++ false ∷ [])) i (width l)) → ⊥) → (n : ℕ) × (n < width l) × (i +ℤ pos n ≡ pos (length p))
+  broken-over : (i : ℤ) → (Holds l (window (around (p ++ false ∷ [])) i (width l)) → ⊥) → (n : ℕ) × (n < width l) × (i +ℤ pos n ≡ pos (length p))
   broken-over i h = go (near p i (width l))
     where
       go : Near p i (width l) → (n : ℕ) × (n < width l) × (i +ℤ pos n ≡ pos (length p))
@@ -92,27 +92,27 @@ module _ (l : Rule) (p : List Bool) (kept : Kept l p) where
 
 -- A pattern that an allowed set loses: the losing job is a miss after a beginning that is kept, and lies in every window that fails, in the earliest too.
 module _ (w : ℕ) (s : LimitSet) (ok : SetAllowed w s) (p : List Bool) (j i : ℕ) (lost : LostAt s p j i) where
-  lost-after : 1 ≤ j
-  lost-after = dite (decLt 0 j) (λ h. h) (λ h. let e : j ≡ 0 = omega arith in absurd (subst (λ z. KeptBy s (take z p) → ⊥) e (lost .lost) (kept-by-empty s w ok)))
+  after : 1 ≤ j
+  after = lost-job-from-1 s p w ok j i lost
 
   losing-miss : take j p ≡ take (j - 1) p ++ false ∷ []
-  losing-miss = go (getD p (j - 1) false) (ap (λ z. take z p) more ∙ take-suc p (j - 1) false (omega (arith, lost-after, lost-within s p j i lost)))
+  losing-miss = go (getD p (j - 1) false) (ap (λ z. take z p) more ∙ take-suc p (j - 1) false (omega (arith, after, lost-within s p j i lost)))
     where
       more : j ≡ suc (j - 1)
-      more = omega (arith, lost-after)
+      more = omega (arith, after)
 
       go : (o : Bool) → take j p ≡ take (j - 1) p ++ o ∷ [] → take j p ≡ take (j - 1) p ++ false ∷ []
       go false e = e
-      go true e = absurd (lost .lost (subst (λ z. KeptBy s z) (sym e) (kept-by-hit s (take (j - 1) p) (lost .shortest (j - 1) (omega (arith, lost-after))))))
+      go true e = absurd (lost .lost (subst (λ z. KeptBy s z) (sym e) (kept-by-hit s (take (j - 1) p) (lost .shortest (j - 1) (omega (arith, after))))))
 
   -- every window that fails has the losing job in it: it begins with that job, or fewer jobs before it than a window has
   pub lost-in-each : (a : ℤ) → (Holds (ruleAt s i) (window (around (take j p)) a (width (ruleAt s i))) → ⊥) → (n : ℕ) × (n < width (ruleAt s i)) × (jobAt a +ℤ pos n ≡ pos j)
   lost-in-each a fails =
       let before = take (j - 1) p in
       let l = ruleAt s i in
-      let kept : Kept l before = lost .shortest (j - 1) (omega (arith, lost-after)) i (lost-of-the-set s p j i lost) in
+      let kept : Kept l before = lost .shortest (j - 1) (omega (arith, after)) i (lost-of-the-set s p j i lost) in
       let (n, h, f) = broken-over l before kept a (subst (λ z. Holds l (window (around z) a (width l)) → ⊥) losing-miss fails) in
-      let long : length before + 1 ≡ j = omega (arith, length-take (j - 1) p, lost-after, lost-within s p j i lost) in
+      let long : length before + 1 ≡ j = omega (arith, length-take (j - 1) p, after, lost-within s p j i lost) in
       (n, h, steps-swap a (pos 1) (pos n) ∙ ap (λ z. z +ℤ pos 1) f ∙ ap pos long)
 
   -- RULES, Lost: "job j lies in the window"

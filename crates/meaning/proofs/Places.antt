@@ -10,7 +10,7 @@ use lib.IntN.{ℤ, pos, negsuc, natAbs, _+ℤ_, _-ℤ_, +ℤ-assoc, +ℤ-comm, +
 use lib.Signed.{_<ℤ_, ltZ-yes}
 use borrow.Author.Tests.{lt-ltb, le-ltb}
 
-pub one-is-earlier : (a b : ℤ) → (a <ℤ b) ⊎ ((a ≡ b) ⊎ (b <ℤ a))
+one-is-earlier : (a b : ℤ) → (a <ℤ b) ⊎ ((a ≡ b) ⊎ (b <ℤ a))
 one-is-earlier (pos a) (pos b) =
     dite (decLt a b) (λ h. inl (ltZ-yes (lt→ltb a b h)))
     (λ h. inr (dite (decLt b a) (λ g. inr (ltZ-yes (lt→ltb b a g))) (λ g. let e : a ≡ b = omega arith in inl (ap pos e))))
@@ -49,10 +49,10 @@ steps-from a m n e =
     ap natAbs (sym (back m) ∙ ap (λ z. z -ℤ a) e ∙ back n)
 
 -- the same number of steps to the same place
-pub steps-to : (a b : ℤ) (n : ℕ) → a +ℤ pos n ≡ b +ℤ pos n → a ≡ b
+steps-to : (a b : ℤ) (n : ℕ) → a +ℤ pos n ≡ b +ℤ pos n → a ≡ b
 steps-to a b n e = sym (+ℤ-negℤ-cancel a (pos n)) ∙ ap (λ z. z -ℤ pos n) e ∙ +ℤ-negℤ-cancel b (pos n)
 
--- d + 1 steps before the place that lies k before place j: j - (d + 1) is one to start from, or the place lies more than k before place 0
+-- Place a lies d + 1 before j - k: it is where the test's window j - (d + 1) begins, and where there is none it lies more than k before place 0.
 module _ (a : ℤ) (d j k : ℕ) (e : a +ℤ pos (suc d) ≡ pos j -ℤ pos k) where
   to-j : a +ℤ pos (suc d + k) ≡ pos j
   to-j = sym (+ℤ-assoc a (pos (suc d)) (pos k)) ∙ ap (λ z. z +ℤ pos k) e ∙ -ℤ-+ℤ-cancel (pos j) (pos k)

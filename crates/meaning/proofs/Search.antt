@@ -1,4 +1,4 @@
--- Whether a set keeps a pattern is decided by a test; where it doesn't, the limit and the window that break are found, and the beginning where it is lost. Assumes nothing.
+-- Whether a set keeps a pattern is decided by a test; where it doesn't, the limit that breaks is found, and the beginning where it is lost. Assumes nothing.
 use mathlib.Core.Path.{_≡_, refl, sym, _∙_, subst}
 use mathlib.Core.Logic.{_↔_}
 use mathlib.Core.Bool.{Bool, true, false}
@@ -45,12 +45,6 @@ pub breaking-limit : (s : LimitSet) (p : List Bool) → (KeptBy s p → ⊥) →
 breaking-limit s p h =
     let (i, l, f, _) = least-false (s .count) (λ i. keptTest (ruleAt s i) p) (λ t. h (kept-by-iff s p .0 t)) in
     (i, l, λ k. f (kept-iff (ruleAt s i) p .1 k))
-
--- a window that breaks
-pub breaking-window : (l : Rule) (p : List Bool) → (Kept l p → ⊥) → (i : ℤ) × (Holds l (window (around p) i (width l)) → ⊥)
-breaking-window l p h =
-    let (j, b, f, _) = least-false (suc (width l + length p)) (windowTest l p) (λ t. h (kept-iff l p .0 t)) in
-    (pos j -ℤ pos (width l), λ k. f (holds-iff l _ .1 k))
 
 -- a pattern that isn't kept has a kept beginning after which a miss loses it
 pub first-loss : (s : LimitSet) (q r : List Bool) → KeptBy s q → (KeptBy s (q ++ r) → ⊥) → (a : List Bool) × (b : List Bool) × (q ++ r ≡ a ++ (false ∷ b)) × KeptBy s a × (KeptBy s (a ++ false ∷ []) → ⊥)

@@ -6,13 +6,13 @@ use mathlib.Core.List.{List}
 use Prim.Native.Nat.{ℕ, _-_, _≤_, _<_}
 use native.Mathlib.Decide.{decLt}
 use native.Mathlib.Omega.{arith}
-use lib.ListN.{length}
+use lib.ListN.{length, take}
 use lib.Seq.{take-all}
 use Rattle.patterns.proofs.Codes.{no-later-antisym}
 use Rattle.meaning.specs.declared.LimitSet.{LimitSet}
-use Rattle.meaning.specs.Sets.{KeptBy, LostAt}
+use Rattle.meaning.specs.Sets.{SetAllowed, KeptBy, LostAt}
 use Rattle.meaning.specs.Covers.{FirstBetween}
-use Rattle.meaning.proofs.SetLaws.{kept-by-take}
+use Rattle.meaning.proofs.SetLaws.{kept-by-empty, kept-by-take}
 
 module _ (s : LimitSet) (p : List Bool) where
   pub kept-not-lost : (j i : ℕ) → KeptBy s p → LostAt s p j i → ⊥
@@ -24,6 +24,11 @@ module _ (s : LimitSet) (p : List Bool) where
       dite (decLt (length p) j) (λ h.
       absurd (l .lost (subst (λ z. KeptBy s z) (take-all (j - 1) p (omega arith) ∙ sym (take-all j p (omega arith))) (l .shortest (j - 1) (omega arith)))))
       (λ h. omega arith)
+
+  -- RULES, Lost: "so j counts from 1": an allowed set keeps the empty pattern
+  pub lost-job-from-1 : (w : ℕ) → SetAllowed w s → (j i : ℕ) → LostAt s p j i → 1 ≤ j
+  lost-job-from-1 w ok j i l =
+      dite (decLt 0 j) (λ h. h) (λ h. let e : j ≡ 0 = omega arith in absurd (subst (λ z. KeptBy s (take z p) → ⊥) e (l .lost) (kept-by-empty s w ok)))
 
   -- and the limit one of the set
   pub lost-of-the-set : (j i : ℕ) → LostAt s p j i → i < s .count

@@ -16,7 +16,8 @@ use Rattle.meaning.specs.Covers.{Between, FirstBetween}
 use Rattle.patterns.proofs.Codes.{no-later-length}
 use Rattle.meaning.proofs.TwoKinds.{length-window}
 use Rattle.meaning.proofs.TwoWay.{kept-occurs, window-drop}
-use Rattle.meaning.proofs.Search.{breaking-limit, breaking-window}
+use Rattle.meaning.proofs.Search.{breaking-limit}
+use Rattle.meaning.proofs.Earliest.{earliest-broken}
 use Rattle.meaning.proofs.Widths.{width-allowed}
 
 -- a window of a pattern with hits around it, taken as a pattern, has itself as a window
@@ -40,9 +41,9 @@ pub short-witness : (a b : LimitSet) (w : ℕ) (p : List Bool) → SetAllowed w 
 short-witness a b w p ok (ka, nb) =
     let (j, lt, nj) = breaking-limit b p nb in
     let l = ruleAt b j in
-    let (i, ni) = breaking-window l p nj in (
+    let (i, ni) = earliest-broken w l p (ok .each j lt .rule-allowed) nj in (
       window (around p) i (width l),
-      (window-kept a p i (width l) ka, λ k. window-breaks l p i ni (k j lt)),
+      (window-kept a p i (width l) ka, λ k. window-breaks l p i (ni .broken) (k j lt)),
       omega (arith, length-window (around p) i (width l), width-allowed w l (ok .each j lt .rule-allowed) .1),
     )
 

@@ -27,6 +27,7 @@ use Rattle.history.proofs.Blocking.{none-blocks}
 use Rattle.history.proofs.Broken.{reaches-earliest}
 use Rattle.verdict.specs.declared.Judgement.{Judgement}
 use Rattle.verdict.specs.Judge.{JudgedBy}
+use Rattle.verdict.specs.declared.Turn.{Turn}
 use Rattle.verdict.specs.declared.Turn.the-variants as turn
 use Rattle.verdict.specs.Turn.{Turned, SaysLost, Stands}
 
@@ -52,9 +53,9 @@ module _ (s : LimitSet) (ok : SetAllowed longest s) (p : List Bool) (i h : ℕ) 
     within = omega (arith, q);
   }
 
-  pub turned-kept : (o : Bool) → getD p i false ≡ o → (h′ : ℕ) → Turned s h o (turn.Kept h′) → Stands s p (i + 1) h′
-  turned-kept true e h′ q = goes-on true e h′ q (kept-by-hit s (take i p) (stands .kept))
-  turned-kept false e h′ (blocks, q) =
+  stands-on : (o : Bool) → getD p i false ≡ o → (h′ : ℕ) → Turned s h o (turn.Kept h′) → Stands s p (i + 1) h′
+  stands-on true e h′ q = goes-on true e h′ q (kept-by-hit s (take i p) (stands .kept))
+  stands-on false e h′ (blocks, q) =
       goes-on false e h′ q
       (may-miss-kept m (take i p) s ok (stands .kept) .0 (T-of _ (none-blocks s (historyOf m (take i p)) (s .count) (subst (λ z. Blocks s z (s .count)) (stands .history) blocks) refl)))
 
@@ -90,13 +91,24 @@ module _ (s : LimitSet) (ok : SetAllowed longest s) (p : List Bool) (i h : ℕ) 
           steps-swap (pos i) (pos 1) (negℤ (pos back)),
         )
 
-  pub turned-lost : (o : Bool) → getD p i false ≡ o → (n : ℕ) → Turned s h o (turn.Lost n) → (r : Judgement) → SaysLost s h i n r → JudgedBy [] s p r
+  judged-lost : (o : Bool) → getD p i false ≡ o → (n : ℕ) → Turned s h o (turn.Lost n) → (r : Judgement) → SaysLost s h i n r → JudgedBy [] s p r
   unfolding first
-  turned-lost true e n t r q = absurd t
-  turned-lost false e n (blocks, lt) r (back, b, q) =
+  judged-lost true e n t r q = absurd t
+  judged-lost false e n (blocks, lt) r (back, b, q) =
       rw q (record { refusal = refl; verdict = (lost-here e n blocks lt, said-from e n blocks lt back b) })
 
+  -- what a turn answers at the next outcome, and what the pattern then is
+  module _ (o : Bool) (e : getD p i false ≡ o) (t : Turn) (turned : Turned s h o t) where
+    pub turned-kept : (h′ : ℕ) → t ≡ turn.Kept h′ → Stands s p (i + 1) h′
+    turned-kept h′ is = stands-on o e h′ (subst (Turned s h o) is turned)
+
+    pub turned-lost : (n : ℕ) → t ≡ turn.Lost n → (r : Judgement) → SaysLost s h i n r → JudgedBy [] s p r
+    turned-lost n is = judged-lost o e n (subst (Turned s h o) is turned)
+
 -- a turn is lost where a limit of the set blocks it
-pub turned-blocks : (s : LimitSet) (h : ℕ) (o : Bool) (n : ℕ) → Turned s h o (turn.Lost n) → Blocks s h n × (n < s .count)
-turned-blocks s h true n t = absurd t
-turned-blocks s h false n t = t
+pub turned-blocks : (s : LimitSet) (h : ℕ) (o : Bool) (t : Turn) → Turned s h o t → (n : ℕ) → t ≡ turn.Lost n → Blocks s h n × (n < s .count)
+turned-blocks s h o t turned n is = go o (subst (Turned s h o) is turned)
+  where
+    go : (o : Bool) → Turned s h o (turn.Lost n) → Blocks s h n × (n < s .count)
+    go true t = absurd t
+    go false t = t

@@ -22,7 +22,7 @@ Turned s h true (Lost n) = ⊥
 Turned s h false (Kept h′) = Blocks s h (s .count) × (h′ ≡ pushed (longest - 1) h false)
 Turned s h false (Lost n) = Blocks s h n × (n < s .count)
 
--- what is said where limit n blocks the miss of job i + 1: that job, the limit, and the job so many before it with which the earliest window begins that the miss breaks
+-- what is said where limit n blocks the miss of job i + 1: that job, the limit, and the first job of the earliest window that the miss breaks, `back` jobs before it
 abbrev pub SaysLost : LimitSet → (h i n : ℕ) → Judgement → Type 0
 SaysLost s h i n r = (back : ℕ) × Reaches (ruleAt s n) h back × (r ≡ judgement.Lost (i + 1) n (pos (i + 1) -ℤ pos back))
 

@@ -2,7 +2,7 @@
 use Prim.Native.Nat.{_+_, _-_, _≤_, _<_}
 use native.Mathlib.Omega.{arith}
 use borrow.Author.Needs.{needs}
-use Rattle.history.proofs.Passed.{Passed, passed-first, passed-more, passed-none, passed-row, row-stays}
+use Rattle.history.proofs.Passed.{Passed, none-passed, passed-more, passed-none, passed-row, row-stays}
 use Rattle.history.proofs.before_row.Statement.{statement}
 use Rattle.history.proofs.before_row.Tie as tie
 
@@ -13,16 +13,16 @@ abbrev μ-loop : tie.MeasureT-loop
 μ-loop history n x rest₀ run₀ passed₀ rest run passed = n - passed
 
 loop-holds : tie.Need-loop-holds Inv-loop μ-loop
-loop-holds c = (omega arith, omega arith, passed-first (c .args .x) (c .args .history) (omega arith))
+loop-holds c = (omega arith, omega arith, none-passed (c .args .x) (c .args .history) (omega arith))
 
-run-after-requires : tie.Need-run-after-requires Inv-loop μ-loop
-run-after-requires c κs = omega arith
+next-run-requires : tie.Need-next-run-requires Inv-loop μ-loop
+next-run-requires c κs = omega arith
 
 returns : tie.Need-returns Inv-loop μ-loop
 returns c =
     let a = c .before .before .before .before .args in
     let l = c .before .before .before .loop in
-    let p = passed-more (l .inv .2) (c .before .run-after .result) (c .before .run-after .ensures) (omega arith) in (
+    let p = passed-more (l .inv .2) (c .before .next-run .result) (c .before .next-run .ensures) (omega arith) in (
       omega arith,
       passed-none (l .inv .2) (omega arith),
       λ b f g. row-stays (a .x) (a .history) (l .passed + 1) b (omega arith) (passed-row p (omega arith)),
@@ -39,7 +39,7 @@ loop-again c =
     let l = c .before .before .before .loop in (
       omega arith,
       omega arith,
-      passed-more (l .inv .2) (c .before .run-after .result) (c .before .run-after .ensures) (omega arith),
+      passed-more (l .inv .2) (c .before .next-run .result) (c .before .next-run .ensures) (omega arith),
     )
 
 returns-2 : tie.Need-returns-2 Inv-loop μ-loop
@@ -57,7 +57,7 @@ before-row-spec =
     Inv-loop
     μ-loop
     loop-holds
-    run-after-requires
+    next-run-requires
     returns
     add-passed
     loop-less

@@ -1,5 +1,5 @@
 -- `verdict::judge_outcomes` meets its contract: the invariant is that the outcomes so far stand. Assumes nothing.
-use mathlib.Core.Path.{refl, subst}
+use mathlib.Core.Path.{refl}
 use Prim.Native.Nat.{_-_, _≤_}
 use native.Mathlib.Omega.{arith}
 use borrow.Author.Needs.{needs}
@@ -7,7 +7,7 @@ use lib.ListN.{length, length-map, List·getD-map}
 use Rattle.layout.specs.Bytes.{byteAt}
 use Rattle.layout.specs.Refusal.{first}
 use Rattle.patterns.specs.Outcome.{outcome, outcomes}
-use Rattle.verdict.specs.Turn.{Stands, Turned}
+use Rattle.verdict.specs.Turn.{Stands}
 use Rattle.verdict.proofs.Turns.{stands-first, stands-last, turned-kept, turned-lost, turned-blocks}
 use Rattle.verdict.proofs.judge_outcomes.Statement.{statement}
 use Rattle.verdict.proofs.judge_outcomes.Tie as tie
@@ -35,10 +35,11 @@ enum-known-turned-2 c = search needs
 
 lost-by-requires : tie.Need-lost-by-requires Inv-loop μ-loop
 lost-by-requires c κs =
+    let t = c .before .before .before .take-turn in
     let l = c .before .before .before .before .before .before in
     let s = l .before .before in
     let o = outcome (byteAt (s .args .pattern .now) (l .loop .i)) in
-    let (blocks, lt) = turned-blocks (s .args .set) (l .loop .history) o _ (subst (λ z. Turned (s .args .set) (l .loop .history) o z) (c .before .turned2 .given .1) (c .before .before .before .take-turn .ensures)) in
+    let (blocks, lt) = turned-blocks (s .args .set) (l .loop .history) o (t .result) (t .ensures) _ (c .before .turned2 .given .1) in
     (s .pre .0, blocks, lt, omega (arith, s .pre .1))
 
 returns : tie.Need-returns Inv-loop μ-loop
@@ -48,8 +49,8 @@ returns c =
     let s = l .before .before in
     let p = s .args .pattern .now in
     let o = outcome (byteAt p (l .loop .i)) in
-    turned-lost (s .args .set) (s .pre .0) (outcomes p) (l .loop .i) (l .loop .history) (omega (arith, length-map p outcome)) (l .loop .inv .1) o (List·getD-map outcome p (l .loop .i) 0) _
-    (subst (λ z. Turned (s .args .set) (l .loop .history) o z) (c .before .before .turned2 .given .1) (t .ensures)) (c .lost-by .result) (c .lost-by .ensures)
+    turned-lost (s .args .set) (s .pre .0) (outcomes p) (l .loop .i) (l .loop .history) (omega (arith, length-map p outcome)) (l .loop .inv .1) o (List·getD-map outcome p (l .loop .i) 0)
+    (t .result) (t .ensures) _ (c .before .before .turned2 .given .1) (c .lost-by .result) (c .lost-by .ensures)
 
 add-i : tie.Need-add-i Inv-loop μ-loop
 add-i c = search needs
@@ -65,8 +66,8 @@ loop-again c =
     let o = outcome (byteAt p (l .loop .i)) in
     let t = c .before .before .before .take-turn in (
       omega arith,
-      turned-kept (s .args .set) (s .pre .0) (outcomes p) (l .loop .i) (l .loop .history) (omega (arith, length-map p outcome)) (l .loop .inv .1) o (List·getD-map outcome p (l .loop .i) 0) _
-          (subst (λ z. Turned (s .args .set) (l .loop .history) o z) (c .before .turned .given .1) (t .ensures)),
+      turned-kept (s .args .set) (s .pre .0) (outcomes p) (l .loop .i) (l .loop .history) (omega (arith, length-map p outcome)) (l .loop .inv .1) o (List·getD-map outcome p (l .loop .i) 0)
+          (t .result) (t .ensures) _ (c .before .turned .given .1),
     )
 
 returns-2 : tie.Need-returns-2 Inv-loop μ-loop

@@ -1,10 +1,10 @@
 -- `night_log::judge::judge_packed` meets its contract: the invariant is that the outcomes so far stand. Assumes nothing.
-use mathlib.Core.Path.{refl, sym, _∙_, subst}
+use mathlib.Core.Path.{refl, sym, _∙_}
 use Prim.Native.Nat.{_-_, _≤_}
 use native.Mathlib.Omega.{arith}
 use borrow.Author.Needs.{needs}
 use Rattle.layout.specs.Refusal.{first}
-use Rattle.verdict.specs.Turn.{Stands, Turned}
+use Rattle.verdict.specs.Turn.{Stands}
 use Rattle.verdict.proofs.Turns.{stands-first, stands-last, turned-kept, turned-lost, turned-blocks}
 use Rattle.night_log.specs.Bytes.{outcomesOf}
 use Rattle.night_log.proofs.Outcomes.{outcomes-length, outcomes-at}
@@ -38,7 +38,7 @@ lost-by-requires c κs =
     let o = t .before .outcome-in in
     let l = t .before .before .before in
     let s = l .before .before in
-    let (blocks, lt) = turned-blocks (s .args .set) (l .loop .history) (o .result) _ (subst (λ z. Turned (s .args .set) (l .loop .history) (o .result) z) (c .before .turned2 .given .1) (t .take-turn .ensures)) in
+    let (blocks, lt) = turned-blocks (s .args .set) (l .loop .history) (o .result) (t .take-turn .result) (t .take-turn .ensures) _ (c .before .turned2 .given .1) in
     (s .pre .0, blocks, lt, omega (arith, s .pre .2))
 
 returns : tie.Need-returns Inv-loop μ-loop
@@ -49,8 +49,8 @@ returns c =
     let s = l .before .before in
     let b = s .args .log .now in
     let i = l .loop .i in
-    turned-lost (s .args .set) (s .pre .0) (outcomesOf b) i (l .loop .history) (omega (arith, outcomes-length b, s .pre .1)) (l .loop .inv .1) (o .result) (outcomes-at b i (omega (arith, s .pre .1)) ∙ sym (o .ensures)) _
-    (subst (λ z. Turned (s .args .set) (l .loop .history) (o .result) z) (c .before .before .turned2 .given .1) (t .take-turn .ensures)) (c .lost-by .result) (c .lost-by .ensures)
+    turned-lost (s .args .set) (s .pre .0) (outcomesOf b) i (l .loop .history) (omega (arith, outcomes-length b, s .pre .1)) (l .loop .inv .1) (o .result) (outcomes-at b i (omega (arith, s .pre .1)) ∙ sym (o .ensures))
+    (t .take-turn .result) (t .take-turn .ensures) _ (c .before .before .turned2 .given .1) (c .lost-by .result) (c .lost-by .ensures)
 
 add-i : tie.Need-add-i Inv-loop μ-loop
 add-i c = search needs
@@ -67,8 +67,8 @@ loop-again c =
     let b = s .args .log .now in
     let i = l .loop .i in (
       omega arith,
-      turned-kept (s .args .set) (s .pre .0) (outcomesOf b) i (l .loop .history) (omega (arith, outcomes-length b, s .pre .1)) (l .loop .inv .1) (o .result) (outcomes-at b i (omega (arith, s .pre .1)) ∙ sym (o .ensures)) _
-          (subst (λ z. Turned (s .args .set) (l .loop .history) (o .result) z) (c .before .turned .given .1) (t .take-turn .ensures)),
+      turned-kept (s .args .set) (s .pre .0) (outcomesOf b) i (l .loop .history) (omega (arith, outcomes-length b, s .pre .1)) (l .loop .inv .1) (o .result) (outcomes-at b i (omega (arith, s .pre .1)) ∙ sym (o .ensures))
+          (t .take-turn .result) (t .take-turn .ensures) _ (c .before .turned .given .1),
     )
 
 returns-2 : tie.Need-returns-2 Inv-loop μ-loop
