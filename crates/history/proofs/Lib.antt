@@ -6,6 +6,7 @@ pub mod Turns
 pub mod Passed
 pub mod MissLaws
 pub mod Walked
+pub mod Recent
 pub mod Blocking
 pub mod Reaching
 pub mod OneResult

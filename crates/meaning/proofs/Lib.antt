@@ -10,4 +10,5 @@ pub mod Unique
 pub mod Earliest
 pub mod Widths
 pub mod Witness
+pub mod Recent
 pub mod WorkedRows
