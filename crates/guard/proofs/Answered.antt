@@ -10,26 +10,26 @@ use Rattle.table.proofs.Shared.{walk-snoc, can-dec}
 use Rattle.guard.specs.declared.Guard.{Guard}
 use Rattle.guard.specs.declared.AskAnswer.{AskAnswer}
 use Rattle.guard.specs.declared.AskAnswer.the-variants as ask
-use Rattle.guard.specs.Guard.{askSays, Standing}
-use Rattle.guard.specs.Told.{inState, afterAll, ByWalk}
+use Rattle.guard.specs.Guard.{standing, askSays, Standing}
+use Rattle.guard.specs.Told.{afterAll, ByWalk}
 use Rattle.guard.proofs.Walked.{told-walk, lost-when, lost-not-walked}
 use Rattle.guard.proofs.OneResult.{same-ask}
 
-module _ (m : Machine) (s : ℕ) (p : List Bool) where
+module _ (m : Machine) (s : ℕ) (os : List Bool) (count : ℕ) (p : List Bool) where
   abbrev g : Guard
-  g = afterAll m (inState s) p
+  g = afterAll m (standing s os count) p
 
   abbrev missed : List Bool
   missed = p ++ false ∷ []
 
   kept-walked : g .lost ≡ false → Can m s p
-  kept-walked kept = dite (can-dec m s p) (λ c. c) (λ n. absurd (true≢false (sym (lost-when m s p n) ∙ kept)))
+  kept-walked kept = dite (can-dec m s p) (λ c. c) (λ n. absurd (true≢false (sym (lost-when m s os count p n) ∙ kept)))
 
   walked-kept : Can m s p → g .lost ≡ false
-  walked-kept (t, e) = ap (λ z. z .lost) (told-walk m s t p e)
+  walked-kept (t, e) = ap (λ z. z .lost) (told-walk m s t os count p e)
 
   miss-walks : Can m s p → m .next (g .state) false ≡ walk m s missed
-  miss-walks (t, e) = ap (λ z. m .next (z .state) false) (told-walk m s t p e) ∙ sym (walk-snoc m s t p false e)
+  miss-walks (t, e) = ap (λ z. m .next (z .state) false) (told-walk m s t os count p e) ∙ sym (walk-snoc m s t p false e)
 
   stands-panic : Standing m g ask.Panic ↔ (Can m s p × (Can m s missed → ⊥))
   stands-panic = (
@@ -57,7 +57,7 @@ module _ (m : Machine) (s : ℕ) (p : List Bool) where
 
     pub ask-by-walk : ByWalk m s p a
     ask-by-walk = record {
-      lost = is-case ask.Lost refl (lost-not-walked m s p);
+      lost = is-case ask.Lost refl (lost-not-walked m s os count p);
       panic = is-case ask.Panic refl stands-panic;
       normal = is-case ask.Normal refl stands-normal;
     }

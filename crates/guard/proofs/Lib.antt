@@ -1,3 +1,4 @@
+pub mod Latest
 pub mod Walked
 pub mod Answered
 pub mod InTable

@@ -1,60 +1,88 @@
--- A guard that is told outcomes walks them: it is lost exactly when they can't be walked, and keeps the state from before the miss that lost it. Assumes nothing.
+-- A guard that is told outcomes walks them and counts them: it is lost exactly when they can't be walked, and keeps the state and the outcomes from before the miss that lost it. Over any number of outcomes held. Assumes nothing.
 use mathlib.Core.Path.{_≡_, refl, sym, ap, _∙_}
 use mathlib.Core.Logic.{_↔_}
 use mathlib.Core.Option.{Option, none, some, Option·none-ne-some}
 use mathlib.Core.Bool.{Bool, true, false, true≢false}
 use mathlib.Core.List.{List, [], _∷_, _++_}
-use Prim.Native.Nat.{ℕ}
+use Prim.Native.Nat.{ℕ, suc, _+_}
+use native.Mathlib.Nat.{add-zero}
+use native.Mathlib.Omega.{arith}
+use lib.ListN.{length}
 use Rattle.table.specs.Shared.{Machine, walk, Can}
 use Rattle.table.proofs.Shared.{walk-first}
 use Rattle.guard.specs.declared.Guard.{Guard}
-use Rattle.guard.specs.Guard.{after}
-use Rattle.guard.specs.Told.{inState, afterAll}
+use Rattle.guard.specs.Guard.{standing, lostIn, latest, after}
+use Rattle.guard.specs.Told.{afterAll}
+use Rattle.guard.proofs.Latest.{latest-none, latest-latest}
+
+one-more : (n k : ℕ) → n + 1 + k ≡ n + suc k
+one-more n k = omega arith
 
 module _ (m : Machine) where
-  pub lost-stays : (g : Guard) (p : List Bool) → g .lost ≡ true → afterAll m g p ≡ g
-  lost-stays g [] e = refl
-  lost-stays g (o ∷ p) e = ap (λ z. afterAll m z p) (rw e) ∙ lost-stays g p e
-
-  step-moves : (s t : ℕ) (o : Bool) → m .next s o ≡ some t → after m (inState s) o ≡ inState t
-  step-moves s t o e = rw e
-
-  step-blocked : (s : ℕ) (o : Bool) → m .next s o ≡ none → after m (inState s) o ≡ record { state = s; lost = true }
-  step-blocked s o e = rw e
-
-  pub told-walk : (s t : ℕ) (p : List Bool) → walk m s p ≡ some t → afterAll m (inState s) p ≡ inState t
-  told-walk s t [] e = ap inState (cc)
-  told-walk s t (o ∷ p) e =
-      let (u, f, g) = walk-first m s t o p e in
-      ap (λ z. afterAll m z p) (step-moves s u o f) ∙ told-walk u t p g
-
-  -- outcomes that lead to s, a miss that isn't possible there, and any others: lost, in state s
-  pub after-lost : (start s : ℕ) (q r : List Bool) → walk m start q ≡ some s → m .next s false ≡ none → afterAll m (inState start) (q ++ (false ∷ r)) ≡ record { state = s; lost = true }
-  after-lost start s [] r e f =
-      let z : start ≡ s = cc in
-      ap (λ k. afterAll m (after m (inState k) false) r) z ∙ ap (λ g. afterAll m g r) (step-blocked s false f) ∙ lost-stays (record { state = s; lost = true }) r refl
-  after-lost start s (o ∷ q) r e f =
-      let (u, g, h) = walk-first m start s o q e in
-      ap (λ z. afterAll m z (q ++ (false ∷ r))) (step-moves start u o g) ∙ after-lost u s q r h f
-
-  told-lost : (s : ℕ) (p : List Bool) → walk m s p ≡ none → afterAll m (inState s) p .lost ≡ true
-  told-lost s [] e = absurd (Option·none-ne-some s (sym e))
-  told-lost s (o ∷ p) e = go (m .next s o) refl (λ u. told-lost u p)
+  pub count-grows : (g : Guard) (o : Bool) → after m g o .count ≡ g .count + 1
+  count-grows g o = go (g .lost) (m .next (g .state) o) refl refl
     where
-      go : (r : Option ℕ) → m .next s o ≡ r → ((u : ℕ) → walk m u p ≡ none → afterAll m (inState u) p .lost ≡ true) → afterAll m (inState s) (o ∷ p) .lost ≡ true
-      go none f ih = ap (λ z. z .lost) (ap (λ z. afterAll m z p) (step-blocked s o f) ∙ lost-stays (record { state = s; lost = true }) p refl)
-      go (some u) f ih = ap (λ z. afterAll m z p .lost) (step-moves s u o f) ∙ ih u (rw f at e)
+      go : (l : Bool) (r : Option ℕ) → g .lost ≡ l → m .next (g .state) o ≡ r → after m g o .count ≡ g .count + 1
+      go true r e f = rw e
+      go false none e f = rw (e, f)
+      go false (some t) e f = rw (e, f)
 
-  module _ (s : ℕ) (p : List Bool) where
+  pub lost-stays : (s : ℕ) (os : List Bool) (n : ℕ) (p : List Bool) → afterAll m (lostIn s os n) p ≡ lostIn s os (n + length p)
+  lost-stays s os n [] = ap (lostIn s os) (sym (add-zero n))
+  lost-stays s os n (o ∷ p) = lost-stays s os (n + 1) p ∙ ap (lostIn s os) (one-more n (length p))
+
+  step-moves : (s t : ℕ) (os : List Bool) (n : ℕ) (o : Bool) → m .next s o ≡ some t → after m (standing s os n) o ≡ standing t (latest os (o ∷ [])) (n + 1)
+  step-moves s t os n o e = rw e
+
+  step-blocked : (s : ℕ) (os : List Bool) (n : ℕ) (o : Bool) → m .next s o ≡ none → after m (standing s os n) o ≡ lostIn s os (n + 1)
+  step-blocked s os n o e = rw e
+
+  pub told-walk : (s t : ℕ) (os : List Bool) (n : ℕ) (p : List Bool) → walk m s p ≡ some t → afterAll m (standing s os n) p ≡ standing t (latest os p) (n + length p)
+  told-walk s t os n [] e =
+      let z : s ≡ t = cc in
+      ap (λ k. standing k os n) z ∙ ap (λ l. standing t l n) (sym (latest-none os)) ∙ ap (standing t (latest os [])) (sym (add-zero n))
+  told-walk s t os n (o ∷ p) e =
+      let (u, f, g) = walk-first m s t o p e in
+      ap (λ z. afterAll m z p) (step-moves s u os n o f)
+      ∙ told-walk u t (latest os (o ∷ [])) (n + 1) p g
+      ∙ ap (λ l. standing t l (n + 1 + length p)) (latest-latest os (o ∷ []) p)
+      ∙ ap (standing t (latest os (o ∷ p))) (one-more n (length p))
+
+  -- outcomes that lead to s, a miss that isn't possible there, and any others: lost, in state s and holding what it held there
+  pub after-lost : (start s : ℕ) (os : List Bool) (n : ℕ) (q r : List Bool) → walk m start q ≡ some s → m .next s false ≡ none → afterAll m (standing start os n) (q ++ (false ∷ r)) ≡ lostIn s (latest os q) (n + length (q ++ (false ∷ r)))
+  after-lost start s os n [] r e f =
+      let z : start ≡ s = cc in
+      ap (λ k. afterAll m (after m (standing k os n) false) r) z
+      ∙ ap (λ g. afterAll m g r) (step-blocked s os n false f)
+      ∙ lost-stays s os (n + 1) r
+      ∙ ap (λ l. lostIn s l (n + 1 + length r)) (sym (latest-none os))
+      ∙ ap (lostIn s (latest os [])) (one-more n (length r))
+  after-lost start s os n (o ∷ q) r e f =
+      let (u, g, h) = walk-first m start s o q e in
+      let rest = q ++ (false ∷ r) in
+      ap (λ z. afterAll m z rest) (step-moves start u os n o g)
+      ∙ after-lost u s (latest os (o ∷ [])) (n + 1) q r h f
+      ∙ ap (λ l. lostIn s l (n + 1 + length rest)) (latest-latest os (o ∷ []) q)
+      ∙ ap (lostIn s (latest os (o ∷ q))) (one-more n (length rest))
+
+  told-lost : (s : ℕ) (os : List Bool) (n : ℕ) (p : List Bool) → walk m s p ≡ none → afterAll m (standing s os n) p .lost ≡ true
+  told-lost s os n [] e = absurd (Option·none-ne-some s (sym e))
+  told-lost s os n (o ∷ p) e = go (m .next s o) refl (λ u. told-lost u (latest os (o ∷ [])) (n + 1) p)
+    where
+      go : (r : Option ℕ) → m .next s o ≡ r → ((u : ℕ) → walk m u p ≡ none → afterAll m (standing u (latest os (o ∷ [])) (n + 1)) p .lost ≡ true) → afterAll m (standing s os n) (o ∷ p) .lost ≡ true
+      go none f ih = ap (λ z. z .lost) (ap (λ z. afterAll m z p) (step-blocked s os n o f) ∙ lost-stays s os (n + 1) p)
+      go (some u) f ih = ap (λ z. afterAll m z p .lost) (step-moves s u os n o f) ∙ ih u (rw f at e)
+
+  module _ (s : ℕ) (os : List Bool) (n : ℕ) (p : List Bool) where
     abbrev g : Guard
-    g = afterAll m (inState s) p
+    g = afterAll m (standing s os n) p
 
     pub lost-when : (Can m s p → ⊥) → g .lost ≡ true
-    lost-when n = go (walk m s p) refl
+    lost-when not = go (walk m s p) refl
       where
         go : (r : Option ℕ) → walk m s p ≡ r → g .lost ≡ true
-        go none e = told-lost s p e
-        go (some t) e = absurd (n (t, e))
+        go none e = told-lost s os n p e
+        go (some t) e = absurd (not (t, e))
 
     pub lost-not-walked : (g .lost ≡ true) ↔ (Can m s p → ⊥)
-    lost-not-walked = (λ e c. true≢false (sym e ∙ ap (λ z. z .lost) (told-walk s (c .0) p (c .1))), lost-when)
+    lost-not-walked = (λ e c. true≢false (sym e ∙ ap (λ z. z .lost) (told-walk s (c .0) os n p (c .1))), lost-when)

@@ -1,10 +1,11 @@
--- RULES, The guard: "A guard is a small record by value: the number of a state, and whether it is lost. It goes into a call and comes out beside the answer".
+-- RULES, The guard: "A guard is a small record by value: the number of a state; whether it is lost; the last 11 outcomes, as truth values, the oldest first; and how many outcomes it was told, a number of 64 bits. It goes into a call and comes out beside the answer".
 use mathlib.Core.Path.{_≡_}
 use mathlib.Core.Option.{Option, none, some}
 use mathlib.Core.Bool.{Bool, true, false, cond}
 use mathlib.Core.List.{List, [], _∷_, _++_}
-use Prim.Native.Nat.{ℕ}
-use lib.Dec.{ltb}
+use Prim.Native.Nat.{ℕ, _+_}
+use lib.Dec.{leb, ltb}
+use lib.ListN.{length, drop, replicate}
 use Rattle.table.specs.Shared.{Row, row, Tested, passed, refused, first, outcome, Machine}
 use Rattle.table.specs.Bytes.{machineOf}
 use Rattle.table.specs.Rows.{tableRows, lookRows}
@@ -19,9 +20,21 @@ use Rattle.guard.specs.declared.AskAnswer.the-variants as ask
 use Rattle.guard.specs.declared.TellAnswer.{TellAnswer}
 use Rattle.guard.specs.declared.TellAnswer.the-variants as tell
 
--- RULES, What a refusal leaves: "a guard that isn't lost, in state 0, told nothing"
+-- how many outcomes a guard holds. That it is one less than the longest window is said where limits are known, in `carry`.
+abbrev pub held : ℕ
+held = 11
+
+-- the largest count
+abbrev pub mostTold : ℕ
+mostTold = 18446744073709551615
+
+-- a guard that isn't lost, in state s, with the outcomes that it holds and its count
+abbrev pub standing : (s : ℕ) → List Bool → (count : ℕ) → Guard
+standing s os n = record { state = s; lost = false; outcomes = os; count = n }
+
+-- "A guard with nothing told isn't lost, is in state 0, holds 11 hits and has the count 0."
 abbrev pub fresh : Guard
-fresh = record { state = 0; lost = false }
+fresh = standing 0 (replicate held true) 0
 
 -- the number of each answer of a start, and what else is returned
 abbrev pub startSays : StartAnswer → Tested
@@ -56,20 +69,27 @@ pub record AskedAs (b : List ℕ) (g : Guard) (r : Asked) : Type 0 where
   pub answer : Standing (machineOf b) g (r .answer)
   pub guard : r .guard ≡ g
 
--- RULES, The guard: "A guard that isn't lost goes to the next state. Told a miss in panic, it becomes lost and keeps its state number. A lost guard stays as it is, whatever it is told".
-abbrev pub moved : Option ℕ → Guard → Guard
-moved none g = record { state = g .state; lost = true }
-moved (some t) g = record { state = t; lost = false }
+-- what is held of the outcomes held so far and of new ones after them: as many as before, the newest
+abbrev pub latest : (os new : List Bool) → List Bool
+latest os new = drop (length new) (os ++ new)
 
-abbrev pub afterBy : Option ℕ → Guard → Guard
-afterBy move g = cond (g .lost) g (moved move g)
+-- RULES, The guard: "A guard that isn't lost goes to the next state and holds the outcome as its newest, without its oldest. Told a miss in panic, it becomes lost and keeps state and outcomes as they were before that miss. A lost guard keeps them too, whatever it is told, and goes on counting".
+abbrev pub lostIn : (s : ℕ) → List Bool → (count : ℕ) → Guard
+lostIn s os n = record { state = s; lost = true; outcomes = os; count = n }
+
+abbrev pub moved : Option ℕ → Guard → Bool → Guard
+moved none g o = lostIn (g .state) (g .outcomes) (g .count + 1)
+moved (some t) g o = standing t (latest (g .outcomes) (o ∷ [])) (g .count + 1)
+
+abbrev pub afterBy : Option ℕ → Guard → Bool → Guard
+afterBy move g o = cond (g .lost) (lostIn (g .state) (g .outcomes) (g .count + 1)) (moved move g o)
 
 abbrev pub after : Machine → Guard → Bool → Guard
-after m g o = afterBy (m .next (g .state) o) g
+after m g o = afterBy (m .next (g .state) o) g o
 
--- RULES, What each entry tests, tell: "as ask; then 13 with 0"
+-- RULES, What each entry tests, tell: "as ask; then 13 with 0; then 17"
 abbrev pub tellRows : List ℕ → Guard → ℕ → List Row
-tellRows b g byte = lookRows b (g .state) ++ row 13 (ltb 1 byte) 0 ∷ []
+tellRows b g byte = lookRows b (g .state) ++ (row 13 (ltb 1 byte) 0 ∷ row 17 (leb mostTold (g .count)) 0 ∷ [])
 
 -- the number of each answer of a tell, and what else is returned
 abbrev pub tellSays : TellAnswer → Tested

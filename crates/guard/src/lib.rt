@@ -1,11 +1,13 @@
 // A guard walks a table as outcomes are told, and says before each job whether a miss is still allowed.
-// Starting refuses by 10 to 12; ask and tell by 10, 11 and what of 12 concerns the guard's state, tell then by 13.
+// Starting refuses by 10 to 12; ask and tell by 10, 11 and what of 12 concerns the guard's state, tell then by 13 and 17.
 // The row's calls refuse by 14 first.
 ghost use mathlib.Core.Path.{_≡_};
 ghost use mathlib.Core.Bool.{false};
+ghost use mathlib.Core.List.{[], _∷_};
+ghost use Prim.Native.Nat.{_+_, _<_};
 ghost use Rattle.table.specs.Shared.{passed};
 ghost use Rattle.table.specs.Check.{moveBy};
-ghost use Rattle.guard.specs.Guard.{StartedAs, askSays, StandingBy, AskedAs, afterBy, ToldAs};
+ghost use Rattle.guard.specs.Guard.{mostTold, standing, fresh, StartedAs, askSays, StandingBy, AskedAs, latest, lostIn, afterBy, ToldAs};
 
 pub mod row;
 
@@ -13,11 +15,20 @@ use table::Looked;
 use table::Moves;
 use table::TableAnswer;
 
-// A guard goes in by value and comes back beside the answer.
+// How many outcomes a guard holds: one less than the longest window. `carry`, which sees both, proves that they agree.
+pub const HELD: usize = 11;
+
+// The largest count of outcomes told.
+const MOST_TOLD: u64 = 18446744073709551615;
+
+// A guard goes in by value and comes back beside the answer. Its outcomes are the last ones told, oldest first, hits
+// where fewer were told; the count is of all of them.
 #[repr(C)]
 pub struct Guard {
     pub state: u16,
     pub lost: bool,
+    pub outcomes: [bool; HELD],
+    pub count: u64,
 }
 
 pub enum StartAnswer {
@@ -52,15 +63,38 @@ pub struct Told {
     pub guard: Guard,
 }
 
+// The outcomes held with a new one as the newest, without the oldest.
+fn latest_of(outcomes: [bool; HELD], hit: bool) -> [bool; HELD]
+    ensures { λ r. ⌜ r ≡ latest outcomes (hit ∷ []) ⌝ }
+{
+    let mut after = outcomes;
+    let mut i = 0;
+    while i < HELD - 1 {
+        after[i] = outcomes[i + 1];
+        i += 1;
+    }
+    after[i] = hit;
+    after
+}
+
 impl Guard {
-    // A guard in state 0, not lost; a refused start gives the same guard.
+    // A guard with nothing told.
+    pub fn new() -> Guard
+        ensures { λ r. ⌜ r ≡ fresh ⌝ }
+    {
+        Guard {
+            state: 0,
+            lost: false,
+            outcomes: [true; HELD],
+            count: 0,
+        }
+    }
+
+    // A guard with nothing told; a refused start gives the same guard.
     pub fn start(table: &[u8]) -> Started
         ensures { λ r. ⌜ StartedAs (now (table .entry)) r ⌝ }
     {
-        let guard = Guard {
-            state: 0,
-            lost: false,
-        };
+        let guard = Guard::new();
         let checked = table::check_table(table);
         if let TableAnswer::Refused { number, at } = checked {
             return Started {
@@ -87,29 +121,50 @@ impl Guard {
         AskAnswer::Panic
     }
 
-    // Where the moves of its state lead a guard.
-    fn moved(self, moves: Moves, hit: bool) -> Guard
-        ensures { λ r. ⌜ r ≡ afterBy (moveBy moves hit) self ⌝ }
+    // The guard that goes to a state with an outcome told.
+    fn to(self, state: u16, hit: bool) -> Guard
+        requires { ⌜ self .count < mostTold ⌝ }
+        ensures { λ r. ⌜ r ≡ standing state (latest (self .outcomes) (hit ∷ [])) (self .count + 1) ⌝ }
     {
-        if self.lost {
-            return self;
+        let before = self.outcomes;
+        let outcomes = latest_of(before, hit);
+        Guard {
+            state,
+            lost: false,
+            outcomes,
+            count: self.count + 1,
         }
-        if hit {
-            return Guard {
-                state: moves.hit,
-                lost: false,
-            };
-        }
-        if moves.may_miss {
-            return Guard {
-                state: moves.miss,
-                lost: false,
-            };
-        }
+    }
+
+    // The guard lost where it stands, with an outcome counted.
+    fn to_lost(self) -> Guard
+        requires { ⌜ self .count < mostTold ⌝ }
+        ensures { λ r. ⌜ r ≡ lostIn (self .state) (self .outcomes) (self .count + 1) ⌝ }
+    {
+        let outcomes = self.outcomes;
         Guard {
             state: self.state,
             lost: true,
+            outcomes,
+            count: self.count + 1,
         }
+    }
+
+    // Where the moves of its state lead a guard that is told an outcome.
+    fn moved(self, moves: Moves, hit: bool) -> Guard
+        requires { ⌜ self .count < mostTold ⌝ }
+        ensures { λ r. ⌜ r ≡ afterBy (moveBy moves hit) self hit ⌝ }
+    {
+        if self.lost {
+            return self.to_lost();
+        }
+        if hit {
+            return self.to(moves.hit, true);
+        }
+        if moves.may_miss {
+            return self.to(moves.miss, false);
+        }
+        self.to_lost()
     }
 
     // Before a job: whether a miss is still allowed.
@@ -148,6 +203,12 @@ impl Guard {
                 if 1 < outcome {
                     return Told {
                         answer: TellAnswer::Refused { number: 13, at: 0 },
+                        guard: self,
+                    };
+                }
+                if MOST_TOLD <= self.count {
+                    return Told {
+                        answer: TellAnswer::Refused { number: 17, at: 0 },
                         guard: self,
                     };
                 }

@@ -1,0 +1,59 @@
+-- The outcomes held, over any number of them: what is held after further outcomes, and how a copy of them becomes it place by place. Assumes nothing.
+use mathlib.Core.Path.{_≡_, sym, ap, ap₂, _∙_}
+use mathlib.Core.Bool.{Bool, false}
+use mathlib.Core.List.{List, [], _∷_, _++_, append-assoc, append-nil}
+use Prim.Native.Nat.{ℕ, suc, _+_, _-_, _≤_, _<_}
+use native.Mathlib.Nat.{add-comm, zero-add}
+use native.Mathlib.Omega.{arith}
+use lib.ListN.{length, getD, take, drop, set, length-append, length-drop}
+use lib.Seq.{take-all, drop-cons, drop-drop, drop-length, drop-append-le, drop-append-seam, getD-drop, set-at, paste, paste-zero, paste-suc}
+use Rattle.guard.specs.Guard.{latest}
+
+pub latest-none : (os : List Bool) → latest os [] ≡ os
+latest-none os = append-nil os
+
+pub latest-length : (os p : List Bool) → length (latest os p) ≡ length os
+latest-length os p = length-drop (length p) (os ++ p) ∙ ap (λ z. z - length p) (length-append os p) ∙ omega arith
+
+-- one after the other
+pub latest-latest : (os p q : List Bool) → latest (latest os p) q ≡ latest os (p ++ q)
+latest-latest os p q =
+    ap (drop (length q)) (sym (drop-append-le (length p) (os ++ p) q (subst-le)))
+    ∙ drop-drop (length q) (length p) ((os ++ p) ++ q)
+    ∙ ap (λ z. drop z ((os ++ p) ++ q)) (sym (length-append p q))
+    ∙ ap (drop (length (p ++ q))) (append-assoc os p q)
+  where
+    subst-le : length p ≤ length (os ++ p)
+    subst-le = rw (length-append os p) (omega arith)
+
+-- as many new ones as are held
+pub latest-whole : (os p : List Bool) → length p ≡ length os → latest os p ≡ p
+latest-whole os p e = ap (λ z. drop z (os ++ p)) e ∙ drop-append-seam os p
+
+module _ (os : List Bool) where
+  -- the first i places of a copy have moved up
+  abbrev pub MovedUp : List Bool → ℕ → Type 0
+  MovedUp after i = after ≡ paste os 0 (drop 1 os) i
+
+  pub moved-none : MovedUp os 0
+  moved-none = paste-zero os 0 (drop 1 os)
+
+  pub moved-one : (after : List Bool) (i : ℕ) → i + 1 < length os → MovedUp after i → MovedUp (set after i (getD os (i + 1) false)) (i + 1)
+  moved-one after i h e =
+      let n : length (drop 1 os) ≡ length os - 1 = length-drop 1 os in
+      let one-more : suc i ≡ i + 1 = omega arith in
+      ap₂ (λ l v. set l i v) e (ap (λ k. getD os k false) (add-comm i 1) ∙ sym (getD-drop 1 os i false))
+      ∙ ap (λ k. set (paste os 0 (drop 1 os) i) k (getD (drop 1 os) i false)) (sym (zero-add i))
+      ∙ paste-suc os 0 (drop 1 os) i false (omega arith) (omega (arith, n))
+      ∙ ap (paste os 0 (drop 1 os)) one-more
+
+  pub moved-all : (after : List Bool) (i : ℕ) (hit : Bool) → i + 1 ≡ length os → MovedUp after i → set after i hit ≡ latest os (hit ∷ [])
+  moved-all after i hit h e = ap (λ l. set l i hit) e ∙ last os h
+    where
+      last : (os : List Bool) → i + 1 ≡ length os → set (paste os 0 (drop 1 os) i) i hit ≡ latest os (hit ∷ [])
+      last [] h = absurd (omega arith)
+      last (x ∷ xs) h =
+          let n : length xs ≡ i = omega arith in
+          ap₂ (λ a b. set (a ++ b) i hit) (take-all i xs (omega arith))
+          (ap (λ k. drop k (x ∷ xs)) (zero-add i) ∙ drop-cons (x ∷ xs) i false (omega arith) ∙ ap (λ r. getD (x ∷ xs) i false ∷ r) (ap (λ k. drop k xs) (sym n) ∙ drop-length xs))
+          ∙ set-at xs (getD (x ∷ xs) i false) [] hit i n
