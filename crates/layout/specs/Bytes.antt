@@ -1,5 +1,5 @@
 -- RULES, Bytes: "Each layout on this page begins with the same head: four bytes, the length field, one number that says how many bytes follow these four; then one byte, the version, which is 1." "a number of several bytes has its highest byte first"
-use mathlib.Core.List.{List, [], _∷_}
+use mathlib.Core.List.{List, [], _∷_, _++_}
 use Prim.Native.Nat.{ℕ, _+_, _*_, _/_, _%_}
 use lib.ListN.{getD}
 
@@ -20,3 +20,10 @@ version b = byteAt b 4
 -- the four bytes that write a number below 4,294,967,296
 abbrev pub fourBytes : ℕ → List ℕ
 fourBytes n = n / 16777216 ∷ n / 65536 % 256 ∷ n / 256 % 256 ∷ n % 256 ∷ []
+
+-- the same of eight bytes, and of a number of 64 bits
+abbrev pub eightAt : List ℕ → ℕ → ℕ
+eightAt b i = fourAt b i * 4294967296 + fourAt b (i + 4)
+
+abbrev pub eightBytes : ℕ → List ℕ
+eightBytes n = fourBytes (n / 4294967296) ++ fourBytes (n % 4294967296)

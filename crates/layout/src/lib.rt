@@ -4,7 +4,7 @@ ghost use mathlib.Core.Path.{_≡_};
 ghost use mathlib.Core.List.{_++_};
 ghost use Prim.Native.Nat.{_+_, _≤_, _<_};
 ghost use lib.ListN.{length, take, drop};
-ghost use Rattle.layout.specs.Bytes.{fourAt, lengthField, fourBytes};
+ghost use Rattle.layout.specs.Bytes.{fourAt, lengthField, fourBytes, eightAt, eightBytes};
 ghost use Rattle.layout.specs.Refusal.{first};
 ghost use Rattle.layout.specs.Head.{headRows, faultRow};
 
@@ -30,6 +30,14 @@ pub fn four_at(bytes: &[u8], at: usize) -> usize
         + wide(bytes[at + 1]) * 65536
         + wide(bytes[at + 2]) * 256
         + wide(bytes[at + 3])
+}
+
+// The number that eight bytes write, the highest first.
+pub fn eight_at(bytes: &[u8], at: usize) -> u64
+    requires { ⌜ at + 8 ≤ length (now bytes) ⌝ }
+    ensures { λ r. ⌜ r ≡ eightAt (now (bytes .entry)) at ⌝ }
+{
+    (four_at(bytes, at) * 4294967296 + four_at(bytes, at + 4)) as u64
 }
 
 // The four bytes that say how many bytes come after them.
@@ -68,4 +76,13 @@ pub fn put_four(out: &mut [u8], at: usize, n: usize)
     out[at + 1] = (n / 65536 % 256) as u8;
     out[at + 2] = (n / 256 % 256) as u8;
     out[at + 3] = (n % 256) as u8;
+}
+
+// Writes a number as eight bytes, the highest first.
+pub fn put_eight(out: &mut [u8], at: usize, n: u64)
+    requires { ⌜ at + 8 ≤ length (now out) ⌝ }
+    ensures { λ _. ⌜ now (out .exit) ≡ take at (now (out .entry)) ++ eightBytes n ++ drop (at + 8) (now (out .entry)) ⌝ }
+{
+    put_four(out, at, (n / 4294967296) as usize);
+    put_four(out, at + 4, (n % 4294967296) as usize);
 }

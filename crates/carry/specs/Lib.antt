@@ -1,0 +1,4 @@
+pub mod Bytes
+pub mod Rows
+pub mod Write
+pub mod Read
