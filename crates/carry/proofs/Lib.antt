@@ -1,1 +1,4 @@
+pub mod Parts
 pub mod Turns
+pub mod Walking
+pub mod Reading

@@ -1,13 +1,12 @@
 -- `carry::test_record`: each refusal is the first row that holds. Assumes nothing.
-use mathlib.Core.Path.{_≡_, sym, ap, ap₂, _∙_}
+use mathlib.Core.Path.{_≡_, sym, ap, _∙_}
 use mathlib.Core.List.{List, [], _∷_, _++_}
-use Prim.Native.Nat.{ℕ, _+_, _-_, _≤_}
+use Prim.Native.Nat.{ℕ, _≤_}
 use native.Mathlib.Omega.{arith}
 use borrow.Author.Needs.{needs}
 use borrow.Author.Tests.{lt-ltb, le-ltb}
 use lib.Dec.{ltb}
-use lib.ListN.{length, take, drop, length-drop}
-use lib.Seq.{length-take-le}
+use lib.ListN.{length}
 use Rattle.layout.specs.Refusal.{Row, row, passed, first}
 use Rattle.layout.specs.Head.{headRows}
 use Rattle.layout.proofs.Head.{no-fault, head-passed, fault-before}
@@ -17,8 +16,9 @@ use Rattle.patterns.specs.Tested.{badPlace}
 use Rattle.meaning.specs.Longest.{longest}
 use Rattle.sets.specs.Rows.{setRows}
 use Rattle.sets.proofs.Reading.{refused-rows, accepted-rows}
-use Rattle.carry.specs.Bytes.{carried, tailSize, aroundSet, setIn, outcomeBytes, lostByte}
+use Rattle.carry.specs.Bytes.{carried, aroundSet, setIn, outcomeBytes, lostByte}
 use Rattle.carry.specs.Rows.{recordRows}
+use Rattle.carry.proofs.Parts.{set-part, outcome-part, outcome-count}
 use Rattle.carry.proofs.test_record.Statement.{statement}
 use Rattle.carry.proofs.test_record.Tie as tie
 
@@ -46,24 +46,6 @@ module _ (c : tie.Else1) where
   pub past-head : first (recordRows longest carried r) ≡ first (afterHead r)
   past-head = passed-before (headRows (aroundSet carried) 18 18 r) (afterHead r) head
 
-  -- the parts that the set and the outcomes are read from
-  abbrev setPart : List ℕ
-  setPart = take (length r - tailSize carried - 5) (drop 5 r)
-
-  pub set-part : setPart ≡ setIn carried r
-  set-part = let z : length r - tailSize carried - 5 ≡ length r - aroundSet carried = omega arith in ap (λ k. take k (drop 5 r)) z
-
-  abbrev outcomePart : List ℕ
-  outcomePart = take (length r - tailSize carried + carried - (length r - tailSize carried)) (drop (length r - tailSize carried) r)
-
-  pub outcome-part : outcomePart ≡ outcomeBytes carried r
-  outcome-part =
-      let z : length r - tailSize carried + carried - (length r - tailSize carried) ≡ carried = omega arith in
-      ap (λ k. take k (drop (length r - tailSize carried) r)) z
-
-  pub outcome-count : length (outcomeBytes carried r) ≡ carried
-  outcome-count = length-take-le carried (drop (length r - tailSize carried) r) (rw (length-drop (length r - tailSize carried) r) (omega (arith, long)))
-
 -- past the set
 module _ (c : tie.After-enum-told) where
   abbrev e : tie.Else1
@@ -73,8 +55,8 @@ module _ (c : tie.After-enum-told) where
   past-set =
       past-head e
       ∙ passed-before (setRows longest (setIn carried (r e))) (afterSet (r e))
-      (ap (λ l. first (setRows longest l)) (sym (set-part e))
-      ∙ accepted-rows longest (setPart e) (c .before .before .read-set .result) (c .before .before .read-set .ensures) (c .enum-told .given .1))
+      (ap (λ l. first (setRows longest l)) (sym (set-part carried (r e)))
+      ∙ accepted-rows longest _ (c .before .before .read-set .result) (c .before .before .read-set .ensures) (c .enum-told .given .1))
 
 -- what the test for 13 says
 module _ (c : tie.After-first-bad) where
@@ -83,9 +65,9 @@ module _ (c : tie.After-first-bad) where
 
   pub tested : first (outcomeRows (outcomeBytes carried (r g)) 0) ≡ badPlace (c .first-bad .result) carried
   tested =
-      ap (λ l. first (outcomeRows l 0)) (sym (outcome-part g))
+      ap (λ l. first (outcomeRows l 0)) (sym (outcome-part carried (r g)))
       ∙ c .first-bad .ensures .1
-      ∙ ap (badPlace (c .first-bad .result)) (ap length (outcome-part g) ∙ outcome-count g)
+      ∙ ap (badPlace (c .first-bad .result)) (ap length (outcome-part carried (r g)) ∙ outcome-count carried (r g) (omega (arith, long g)))
 
 -- past 13
 past-outcomes : (c : tie.Else2) → first (recordRows longest carried (r (g (c .before)))) ≡ first (afterOutcomes (r (g (c .before))))
@@ -128,7 +110,7 @@ returns-2 c =
     sym
     (past-head e
     ∙ refused-before (setRows longest (setIn carried (r e))) (afterSet (r e))
-    (ap (λ l. first (setRows longest l)) (sym (set-part e)) ∙ refused-rows longest (setPart e) (i .read-set .result) (i .read-set .ensures) _ _ (c .before .answer .given .1)))
+    (ap (λ l. first (setRows longest l)) (sym (set-part carried (r e))) ∙ refused-rows longest _ (i .read-set .result) (i .read-set .ensures) _ _ (c .before .answer .given .1)))
 
 enum-told : tie.Need-enum-told
 enum-told c = search needs

@@ -34,12 +34,11 @@ loop-again : tie.Need-loop-again Inv-loop μ-loop
 loop-again c =
     let t = c .before in
     let l = t .before .before .before in
-    let a = l .before .before .before .args in
-    (
+    let a = l .before .before .before .args in (
       omega arith,
       ap (λ g. toldAll (a .table .now) g (drop (l .loop .i + 1) (a .outcomes .now))) (t .tell .ensures .guard)
-      ∙ sym (told-next (a .table .now) (a .outcomes .now) (l .loop .walked) (l .loop .i) (omega arith))
-      ∙ l .loop .inv .1,
+          ∙ sym (told-next (a .table .now) (a .outcomes .now) (l .loop .walked) (l .loop .i) (omega arith))
+          ∙ l .loop .inv .1,
     )
 
 returns : tie.Need-returns Inv-loop μ-loop
