@@ -7,7 +7,7 @@ use native.Mathlib.Numerals.{add-one}
 use native.Mathlib.Omega.{arith}
 use mir.Val.{boolByte}
 use lib.ListN.{length, getD, take, drop, set, length-append, List·getD-map}
-use lib.Seq.{length-take-le, take-all, drop-cons, set-at, paste, paste-zero, paste-suc}
+use lib.Seq.{length-take-le, take-all, drop-cons, set-at, paste, paste-suc}
 use Rattle.layout.specs.Bytes.{byteAt, fourBytes}
 use Rattle.layout.proofs.Runs.{put-next, put-then}
 use Rattle.patterns.specs.Outcome.{bit}

@@ -1,20 +1,20 @@
 -- `carry::write::put_guard` meets its contract: the outcomes, eight bytes after them, and one more. Assumes nothing.
 use mathlib.Core.Path.{_≡_, refl, ap, _∙_}
-use mathlib.Core.List.{[], _∷_, _++_, map}
+use mathlib.Core.List.{map}
 use Prim.Native.Nat.{_+_}
 use native.Mathlib.Omega.{arith}
-use lib.ListN.{take, drop, set, length-set, length-map}
+use borrow.Author.Needs.{needs}
+use lib.ListN.{length, set, length-set, length-map}
 use Rattle.layout.specs.Bytes.{eightBytes}
 use Rattle.patterns.specs.Outcome.{bit}
-use Rattle.carry.specs.Bytes.{carried, tailSize}
+use Rattle.carry.specs.Bytes.{carried}
 use Rattle.carry.proofs.Writing.{cast-bit, tail-written}
-use borrow.Author.Needs.{needs}
 use Rattle.carry.proofs.write.put_guard.Statement.{statement}
 use Rattle.carry.proofs.write.put_guard.Tie as tie
-use Rattle.carry.proofs.write.put_guard.Reads as reads
-use Rattle.carry.proofs.write.put_guard.Lts as lts
-use Rattle.carry.proofs.write.put_outcomes.Reads as put-outcomes-reads
-use Rattle.layout.proofs.put_eight.Reads as put-eight-reads
+
+-- a guard in memory holds its outcomes
+held : (s : tie.Start) → length (s .args .guard .outcomes) ≡ carried
+held s = search needs
 
 put-outcomes-requires : tie.Need-put-outcomes-requires
 put-outcomes-requires c κs = search needs
@@ -52,7 +52,7 @@ returns c =
     let g = s .args .guard in
     ap (set (q .put-eight .last .0) (s .args .at + carried + 8)) (cast-bit (g .lost))
     ∙ tail-written d (p .put-outcomes .last .0) (q .put-eight .last .0) (map bit (g .outcomes)) (eightBytes (g .count)) (s .args .at) carried 8 (bit (g .lost))
-    (omega arith) (omega (arith, length-map (g .outcomes) bit, s .good .0)) refl (p .put-outcomes .ensures) (q .put-eight .ensures)
+    (omega arith) (length-map (g .outcomes) bit ∙ held s) refl (p .put-outcomes .ensures) (q .put-eight .ensures)
 
 pub put-guard-spec : {M : Type 1} → statement M
 put-guard-spec =

@@ -11,8 +11,6 @@ use Rattle.carry.specs.Bytes.{carried}
 use Rattle.carry.proofs.Writing.{cast-at, paste-turn, paste-end}
 use Rattle.carry.proofs.write.put_outcomes.Statement.{statement}
 use Rattle.carry.proofs.write.put_outcomes.Tie as tie
-use Rattle.carry.proofs.write.put_outcomes.Reads as reads
-use Rattle.carry.proofs.write.put_outcomes.Lts as lts
 
 abbrev Inv-loop : tie.InvT-loop
 Inv-loop out₀ at outcomes i₀ out i = (i ≤ carried) × (length out ≡ length out₀) × (out ≡ paste out₀ at (map bit outcomes) i)

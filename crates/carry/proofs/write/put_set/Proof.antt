@@ -9,9 +9,6 @@ use Rattle.carry.specs.Bytes.{carried, tailSize}
 use Rattle.carry.proofs.Writing.{paste-turn, set-written}
 use Rattle.carry.proofs.write.put_set.Statement.{statement}
 use Rattle.carry.proofs.write.put_set.Tie as tie
-use Rattle.carry.proofs.write.put_set.Reads as reads
-use Rattle.carry.proofs.write.put_set.Lts as lts
-use Rattle.layout.proofs.put_four.Reads as put-four-reads
 
 abbrev Inv-loop : tie.InvT-loop
 Inv-loop set out₀ i₀ out i = (i ≤ length set) × (length out ≡ length out₀) × (out ≡ paste out₀ 5 set i)

@@ -1,8 +1,9 @@
 -- `carry::write::write_record` meets its contract: the rows of the set decide, and where those are passed the buffer's length does. Assumes nothing.
-use mathlib.Core.Path.{_≡_, refl, sym, ap, _∙_}
+use mathlib.Core.Path.{_≡_, refl, ap, _∙_}
 use mathlib.Core.List.{_++_}
 use Prim.Native.Nat.{_+_}
 use native.Mathlib.Omega.{arith}
+use borrow.Author.Needs.{needs}
 use lib.ListN.{length, take, drop}
 use Rattle.layout.specs.Refusal.{passed, first}
 use Rattle.layout.proofs.Rows.{refused-before, passed-before, too-short, long-enough}
@@ -13,14 +14,8 @@ use Rattle.sets.specs.Rows.{setRows}
 use Rattle.sets.proofs.Accepted.{Head, accepted-head}
 use Rattle.sets.proofs.Reading.{refused-rows, accepted-rows}
 use Rattle.carry.specs.Bytes.{carried, headBytes, tailBytes, tailSize, sizeOf}
-use borrow.Author.Needs.{needs}
 use Rattle.carry.proofs.write.write_record.Statement.{statement}
 use Rattle.carry.proofs.write.write_record.Tie as tie
-use Rattle.carry.proofs.write.write_record.Reads as reads
-use Rattle.carry.proofs.write.write_record.Lts as lts
-use Rattle.carry.proofs.write.put_guard.Reads as put-guard-reads
-use Rattle.carry.proofs.write.put_set.Reads as put-set-reads
-use Rattle.sets.proofs.read_set.Reads as read-set-reads
 
 -- the rows of the set were passed
 abbrev start : tie.After-enum-told → tie.Start
@@ -78,12 +73,13 @@ returns-3 c =
     let s = start h .args in
     let set = s .set .now in
     let n = length set in
+    let whole : 5 + n + tailSize carried ≡ sizeOf carried set = omega arith in
     written-by _ _ _ (s .out .now) _ _ _
     (passed-before _ _ (at-room h) ∙ long-enough _ _ _ _ (i .if1 .left)) refl refl
     (q .put-guard .ensures
     ∙ ap (λ o. take (5 + n) o ++ tailBytes (s .guard) ++ drop (5 + n + tailSize carried) o) (p .put-set .ensures)
     ∙ put-next (s .out .now) (headBytes carried set) (tailBytes (s .guard)) (5 + n) (tailSize carried) (omega arith)
-    ∙ ap (λ k. headBytes carried set ++ tailBytes (s .guard) ++ drop k (s .out .now)) (omega arith))
+    ∙ ap (λ k. headBytes carried set ++ tailBytes (s .guard) ++ drop k (s .out .now)) whole)
 
 pub write-record-spec : {M : Type 1} → statement M
 write-record-spec =
