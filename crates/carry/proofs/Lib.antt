@@ -2,3 +2,6 @@ pub mod Parts
 pub mod Turns
 pub mod Walking
 pub mod Reading
+pub mod Writing
+pub mod RoundTrip
+pub mod OneResult

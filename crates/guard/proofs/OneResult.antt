@@ -49,7 +49,7 @@ tell-known : (a : TellAnswer) → a ≡ tellOf (tellSays a)
 tell-known tell.Told = refl
 tell-known (tell.Refused number at) = refl
 
-same-start : (a a′ : StartAnswer) → startSays a ≡ startSays a′ → a ≡ a′
+pub same-start : (a a′ : StartAnswer) → startSays a ≡ startSays a′ → a ≡ a′
 same-start a a′ e = start-known a ∙ ap startOf e ∙ sym (start-known a′)
 
 pub same-ask : (miss : Option ℕ) (g : Guard) (a a′ : AskAnswer) → askSays a ≡ askSays a′ → StandingBy miss g a → StandingBy miss g a′ → a ≡ a′

@@ -1,0 +1,92 @@
+-- `carry::write::put_set` meets its contract. The length field and the version stand first; the invariant: past byte 5 stand the first i bytes of the set, and then what stood there. Assumes nothing.
+use mathlib.Core.Path.{_≡_, refl, _∙_}
+use Prim.Native.Nat.{_+_, _-_, _≤_}
+use native.Mathlib.Omega.{arith}
+use borrow.Author.Needs.{needs}
+use lib.ListN.{length, set, length-set}
+use lib.Seq.{paste, paste-zero}
+use Rattle.carry.specs.Bytes.{carried, tailSize}
+use Rattle.carry.proofs.Writing.{paste-turn, set-written}
+use Rattle.carry.proofs.write.put_set.Statement.{statement}
+use Rattle.carry.proofs.write.put_set.Tie as tie
+
+abbrev Inv-loop : tie.InvT-loop
+Inv-loop set out₀ i₀ out i = (i ≤ length set) × (length out ≡ length out₀) × (out ≡ paste out₀ 5 set i)
+
+abbrev μ-loop : tie.MeasureT-loop
+μ-loop set out₀ i₀ out i = length set - i
+
+add-put-four : tie.Need-add-put-four Inv-loop μ-loop
+add-put-four c = search needs
+
+add-put-four-2 : tie.Need-add-put-four-2 Inv-loop μ-loop
+add-put-four-2 c = search needs
+
+put-four-requires : tie.Need-put-four-requires Inv-loop μ-loop
+put-four-requires c κs = search needs
+
+slice-write-out : tie.Need-slice-write-out Inv-loop μ-loop
+slice-write-out c = search needs
+
+loop-holds : tie.Need-loop-holds Inv-loop μ-loop
+loop-holds c = (omega arith, refl, paste-zero (set (c .before .before .put-four .last .0) 4 1) 5 (c .before .before .before .before .before .before .args .set .now))
+
+shared-slice-read-out : tie.Need-shared-slice-read-out Inv-loop μ-loop
+shared-slice-read-out c = search needs
+
+add-out : tie.Need-add-out Inv-loop μ-loop
+add-out c = search needs
+
+slice-write-out-2 : tie.Need-slice-write-out-2 Inv-loop μ-loop
+slice-write-out-2 c =
+    let l = c .before .before in
+    let p = l .before .before .before in
+    omega (arith, l .loop .inv .1, length-set (p .put-four .last .0) 4 1, p .put-four .kept .0)
+
+add-i : tie.Need-add-i Inv-loop μ-loop
+add-i c = search needs
+
+loop-less : tie.Need-loop-less Inv-loop μ-loop
+loop-less c = search needs
+
+loop-again : tie.Need-loop-again Inv-loop μ-loop
+loop-again c =
+    let l = c .before .before in
+    let p = l .before .before .before in
+    let s = p .before .before .before .before .args .set .now in
+    let d = set (p .put-four .last .0) 4 1 in (
+      omega arith,
+      length-set (l .loop .out) (5 + l .loop .i) _ ∙ l .loop .inv .1,
+      paste-turn d s (l .loop .out) 5 (l .loop .i) _ (omega (arith, length-set (p .put-four .last .0) 4 1, p .put-four .kept .0)) (omega arith) refl (l .loop .inv .2),
+    )
+
+same-length : tie.Need-same-length Inv-loop μ-loop
+same-length c = let p = c .before .before .before .before in c .before .loop .inv .1 ∙ length-set (p .put-four .last .0) 4 1 ∙ p .put-four .kept .0
+
+returns : tie.Need-returns Inv-loop μ-loop
+returns c =
+    let l = c .before .loop in
+    let p = c .before .before .before .before in
+    let s = p .before .before .before .before in
+    let b = s .args .set .now in
+    set-written (s .args .out .now) (p .put-four .last .0) (l .out) b (1 + length b + tailSize carried) (l .i) (omega arith) (p .put-four .ensures) (omega arith) (l .inv .2)
+
+pub put-set-spec : {M : Type 1} → statement M
+put-set-spec =
+    tie.close
+    (tie.spec
+    Inv-loop
+    μ-loop
+    add-put-four
+    add-put-four-2
+    put-four-requires
+    slice-write-out
+    loop-holds
+    shared-slice-read-out
+    add-out
+    slice-write-out-2
+    add-i
+    loop-less
+    loop-again
+    same-length
+    returns)
