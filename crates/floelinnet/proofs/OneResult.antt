@@ -23,6 +23,10 @@ use Rattle.guard.specs.declared.Guard.{Guard}
 use Rattle.guard.specs.Guard.{StartedAs, AskedAs, ToldAs}
 use Rattle.guard.specs.Row.{RowStartedAs, RowAskedAs, RowToldAs}
 use Rattle.guard.proofs.OneResult.{start-one-result, ask-one-result, tell-one-result, row-start-one-result, row-ask-one-result, row-tell-one-result}
+use Rattle.carry.specs.Bytes.{carried}
+use Rattle.carry.specs.Write.{RecordWrittenAs}
+use Rattle.carry.specs.Read.{ReadBackAs}
+use Rattle.carry.proofs.OneResult.{record-written-one-result, read-back-one-result}
 use Rattle.floelinnet.specs.declared.FloeSetRead.{FloeSetRead}
 use Rattle.floelinnet.specs.declared.FloeWritten.{FloeWritten}
 use Rattle.floelinnet.specs.declared.FloeVerdict.{FloeVerdict}
@@ -88,6 +92,12 @@ module _ (row : List Guard) (job : ℕ) (b : List ℕ) where
 
   pub floe-row-tell-one-result : (byte : ℕ) (z z′ : List Guard) (r t : FloeDone) → FlatAnswer (λ a. RowToldAs row job b byte a z) flatTell r → FlatAnswer (λ a. RowToldAs row job b byte a z′) flatTell t → (r ≡ t) × (z ≡ z′)
   floe-row-tell-one-result byte = one-flat-lent (RowToldAs row job b byte) flatTell (row-tell-one-result row job b byte)
+
+pub floe-carry-write-one-result : (g : Guard) (set out o o′ : List ℕ) (r t : FloeWritten) → FlatAnswer (RecordWrittenAs longest carried g set out o) flatWritten r → FlatAnswer (RecordWrittenAs longest carried g set out o′) flatWritten t → (r ≡ t) × (o ≡ o′)
+floe-carry-write-one-result g set out = one-flat-lent (λ a o. RecordWrittenAs longest carried g set out o a) flatWritten (λ a b o o′. record-written-one-result longest carried g set out o o′ a b)
+
+pub floe-carry-read-one-result : (r b : List ℕ) (a t : FloeStarted) → FlatAnswer (ReadBackAs longest carried r b) flatStarted a → FlatAnswer (ReadBackAs longest carried r b) flatStarted t → a ≡ t
+floe-carry-read-one-result r b = one-flat (ReadBackAs longest carried r b) flatStarted (read-back-one-result longest carried r b)
 
 pub floe-log-write-one-result : (p out o o′ : List ℕ) (r t : FloeWritten) → FlatAnswer (LogWrittenAs p out o) flatWritten r → FlatAnswer (LogWrittenAs p out o′) flatWritten t → (r ≡ t) × (o ≡ o′)
 floe-log-write-one-result p out = one-flat-lent (λ a o. LogWrittenAs p out o a) flatWritten (λ a b o o′. log-written-one-result p out o o′ a b)

@@ -12,10 +12,14 @@ ghost use Rattle.floelinnet.specs.Flat.{FlatAnswer, flatSet, flatWritten
 use guard::Guard;
 use meaning::LimitSet;
 
+mod carries;
 mod flat;
 mod log;
 mod row;
 
+pub use carries::floe_carry_read;
+pub use carries::floe_carry_write;
+pub use carries::floe_guard_new;
 pub use log::floe_log_judge;
 pub use log::floe_log_next;
 pub use log::floe_log_open;
