@@ -5,6 +5,7 @@ use crate::text;
 use compare::CompareAnswer;
 use guard::AskAnswer;
 use guard::Guard;
+use guard::HELD;
 use guard::StartAnswer;
 use guard::TellAnswer;
 use layout::WriteAnswer;
@@ -143,9 +144,10 @@ pub(crate) fn print_place(place: usize) {
     text::print_number(place as u64);
 }
 
-pub(crate) fn print_started(answer: StartAnswer) {
+// The word is `started`, or `carried` where a guard was read back.
+pub(crate) fn print_started(answer: StartAnswer, word: &[u8]) {
     match answer {
-        StartAnswer::Started => text::print(b"started"),
+        StartAnswer::Started => text::print(word),
         StartAnswer::Refused { number, at } => text::print_refusal(number, at),
     }
 }
@@ -166,11 +168,24 @@ pub(crate) fn print_told(answer: TellAnswer) {
     }
 }
 
-// As `state 1`, or `state 1 lost`.
+fn print_held(outcomes: [bool; HELD]) {
+    let mut i = 0;
+    while i < HELD {
+        text::print_outcome(outcomes[i]);
+        i += 1;
+    }
+}
+
+// As `state 1 lost, told 3, holds 11111111110`; `lost` only where it is.
 pub(crate) fn print_guard(guard: Guard) {
     text::print(b"state ");
     text::print_number(guard.state as u64);
     if guard.lost {
         text::print(b" lost");
     }
+    text::print(b", told ");
+    text::print_number(guard.count);
+    text::print(b", holds ");
+    let outcomes = guard.outcomes;
+    print_held(outcomes);
 }

@@ -100,15 +100,20 @@ pub(crate) fn number(field: &[u8]) -> usize
     pair(field[0], field[1]) as usize
 }
 
-// The same as a buffer's size: at most 64.
-pub(crate) fn size(field: &[u8]) -> usize
+pub(crate) fn at_most_64(n: usize) -> usize
     ensures { λ r. ⌜ r ≤ 64 ⌝ }
 {
-    let n = number(field);
     if n < 64 {
         return n;
     }
     64
+}
+
+// A field's number as a buffer's size.
+pub(crate) fn size(field: &[u8]) -> usize
+    ensures { λ r. ⌜ r ≤ 64 ⌝ }
+{
+    at_most_64(number(field))
 }
 
 // The number that bytes write, the highest first; of more than eight bytes the last eight.

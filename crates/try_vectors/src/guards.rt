@@ -1,77 +1,53 @@
-// One guard driven by a field of actions, one character each: `s` start, `a` ask, a digit or `x` tell.
-// The answer to each is printed in turn, and at the end the guard as it then stands.
-use crate::answers;
+// Guards driven by actions, one with nothing told and one made by hand.
+// A guard by hand is four fields of a line, from field 2 on: its state, 1 if it is lost, its outcomes, its count.
+use crate::actions;
 use crate::fields;
 use crate::tables;
-use crate::text;
 use guard::Guard;
+use guard::HELD;
 
-// The outcome byte that an action tells; no digit stands for 255, so `x` does.
-fn outcome(action: u8) -> u8 {
-    if action == b'x' {
-        return 255;
+fn is_one(field: &[u8], at: usize) -> bool {
+    if field.len() <= at {
+        return false;
     }
-    if action < b'0' {
-        return 0;
-    }
-    action - b'0'
+    field[at] == b'1'
 }
 
-fn act(guard: Guard, table: &[u8], action: u8) -> Guard {
-    if action == b's' {
-        let started = Guard::start(table);
-        let answer = started.answer;
-        answers::print_started(answer);
-        return started.guard;
-    }
-    if action == b'a' {
-        let asked = guard.ask(table);
-        let answer = asked.answer;
-        answers::print_asked(answer);
-        return asked.guard;
-    }
-    let told = guard.tell(table, outcome(action));
-    let answer = told.answer;
-    answers::print_told(answer);
-    told.guard
-}
-
-fn drive(guard: Guard, table: &[u8], actions: &[u8]) {
-    let mut driven = guard;
+// A field's outcomes as a guard holds them, misses where there are fewer.
+fn held(field: &[u8]) -> [bool; HELD] {
+    let mut outcomes = [false; HELD];
     let mut i = 0;
-    while i < actions.len() {
-        driven = act(driven, table, actions[i]);
-        text::print(b", ");
+    while i < HELD {
+        outcomes[i] = is_one(field, i);
         i += 1;
     }
-    answers::print_guard(driven);
+    outcomes
 }
 
-fn drive_on(guard: Guard, table_field: &[u8], actions: &[u8]) {
-    let mut space = io::large_buffer();
-    let n = tables::put(table_field, &mut space);
-    drive(guard, &space[..n], actions);
+pub(crate) fn by_hand(line: &[u8]) -> Guard {
+    let outcomes = held(fields::field(line, 4));
+    Guard {
+        state: tables::number_of(fields::field(line, 2)),
+        lost: is_one(fields::field(line, 3), 0),
+        outcomes,
+        count: fields::long_number(fields::field(line, 5)) as u64,
+    }
 }
 
 pub(crate) fn try_new(line: &[u8]) {
-    let guard = Guard {
-        state: 0,
-        lost: false,
-    };
-    drive_on(guard, fields::field(line, 1), fields::field(line, 2));
-}
-
-fn is_one(field: &[u8]) -> bool {
-    if field.len() == 0 {
-        return false;
-    }
-    field[0] == b'1'
+    actions::drive_on(
+        Guard::new(),
+        b"",
+        fields::field(line, 1),
+        fields::field(line, 2),
+    );
 }
 
 pub(crate) fn try_by_hand(line: &[u8]) {
-    let guard = Guard {
-        state: tables::number_of(fields::field(line, 2)),
-        lost: is_one(fields::field(line, 3)),
-    };
-    drive_on(guard, fields::field(line, 1), fields::field(line, 4));
+    actions::drive_on(
+        by_hand(line),
+        b"",
+        fields::field(line, 1),
+        fields::field(line, 6),
+    );
 }

@@ -1,18 +1,9 @@
 // Night logs written, opened, read one outcome a call and judged, as a vector's fields give them.
 // A buffer holds EE throughout before a log is written; it is shown whole afterwards, with the byte past its end.
 // The place where the reader then stands follows its answers.
-ghost use Prim.Native.Nat.{_≤_};
 use crate::answers;
 use crate::fields;
 use crate::text;
-
-// A buffer of so many bytes, and the byte past its end.
-fn show(out: &[u8; 65], size: usize)
-    requires { ⌜ size ≤ 64 ⌝ }
-{
-    text::print(b": ");
-    text::print_bytes(out, size + 1);
-}
 
 pub(crate) fn try_write(line: &[u8]) {
     let mut pattern = [0u8; 320];
@@ -20,7 +11,7 @@ pub(crate) fn try_write(line: &[u8]) {
     let jobs = fields::outcomes(fields::field(line, 1), &mut pattern);
     let size = fields::size(fields::field(line, 2));
     answers::print_written(night_log::write_log(&pattern[..jobs], &mut out[0..size]));
-    show(&out, size);
+    text::print_buffer(&out, size);
 }
 
 pub(crate) fn try_open(line: &[u8]) {

@@ -2,8 +2,11 @@
 // Each line is printed as it stands, then ` = ` and the answers. Comments begin with `#`; they and empty lines have none.
 // `r SET` reads; `w SET` reads and writes; `m SET SIZE` writes from memory; `j SET OUTCOMES` judges; `c SET SET` compares.
 // `l OUTCOMES SIZE` writes a log; `o LOG` opens one; `n LOG PLACE` calls its reader there, `a LOG CALLS` so many times from place 0; `v SET LOG` judges it.
-// `t TABLE` checks a table. `g TABLE ACTIONS` drives a guard in state 0; `h TABLE STATE LOST ACTIONS` drives one made by hand.
+// `t TABLE` checks a table. `g TABLE ACTIONS` drives a guard with nothing told; `h TABLE STATE LOST OUTCOMES COUNT ACTIONS` drives one made by hand.
+// `p SET TABLE ACTIONS` drives one through changes of the battery. `k SET STATE LOST OUTCOMES COUNT SIZE` writes a record; `b RECORD TABLE ACTIONS` reads one back and drives its guard.
+mod actions;
 mod answers;
+mod carries;
 mod fields;
 mod guards;
 mod limits;
@@ -62,6 +65,40 @@ fn answer_logs(line: &[u8], command: u8) -> bool {
     false
 }
 
+// The same for vectors on tables and guards.
+fn answer_guards(line: &[u8], command: u8) -> bool {
+    if command == b't' {
+        tables::try_check(line);
+        return true;
+    }
+    if command == b'g' {
+        guards::try_new(line);
+        return true;
+    }
+    if command == b'h' {
+        guards::try_by_hand(line);
+        return true;
+    }
+    false
+}
+
+// The same for vectors on records and changes of the battery.
+fn answer_carries(line: &[u8], command: u8) -> bool {
+    if command == b'p' {
+        carries::try_changes(line);
+        return true;
+    }
+    if command == b'k' {
+        carries::try_write(line);
+        return true;
+    }
+    if command == b'b' {
+        carries::try_read(line);
+        return true;
+    }
+    false
+}
+
 fn answer(line: &[u8], command: u8) {
     text::print(b" = ");
     if answer_limits(line, command) {
@@ -70,16 +107,10 @@ fn answer(line: &[u8], command: u8) {
     if answer_logs(line, command) {
         return;
     }
-    if command == b't' {
-        tables::try_check(line);
+    if answer_guards(line, command) {
         return;
     }
-    if command == b'g' {
-        guards::try_new(line);
-        return;
-    }
-    if command == b'h' {
-        guards::try_by_hand(line);
+    if answer_carries(line, command) {
         return;
     }
     text::print(b"no such command");

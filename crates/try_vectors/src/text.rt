@@ -1,6 +1,7 @@
-// What answers are made of, printed to standard output: text, numbers, bytes, outcomes, a refusal.
+// What answers are made of, printed to standard output: text, numbers, bytes, outcomes, a buffer, a refusal.
 // Bytes and outcomes are the first so many of a slice; where there are none, `-` is printed.
 // No contract can say what is written, so these are only proved safe, and ending.
+ghost use Prim.Native.Nat.{_≤_};
 use libc::STDOUT_FILENO;
 
 pub(crate) fn print(text: &[u8]) {
@@ -61,6 +62,22 @@ pub(crate) fn print_bytes(bytes: &[u8], count: usize) {
 
 pub(crate) fn print_outcomes(outcomes: &[u8], count: usize) {
     print_values(outcomes, count, false);
+}
+
+pub(crate) fn print_outcome(hit: bool) {
+    if hit {
+        print(b"1");
+        return;
+    }
+    print(b"0");
+}
+
+// A buffer of so many bytes, and the byte past its end.
+pub(crate) fn print_buffer(out: &[u8; 65], size: usize)
+    requires { ⌜ size ≤ 64 ⌝ }
+{
+    print(b": ");
+    print_bytes(out, size + 1);
 }
 
 // As `refused 3 at 0`.

@@ -1,15 +1,18 @@
--- `try_vectors::guards::drive` is safe and ends: each turn is one action further. Assumes nothing.
+-- `try_vectors::actions::drive` is safe and ends: each turn is one action further. Assumes nothing.
 use Prim.Native.Nat.{_≤_, _-_}
 use borrow.Author.Needs.{needs}
 use lib.ListN.{length}
-use Rattle.try_vectors.proofs.guards.drive.Statement.{statement}
-use Rattle.try_vectors.proofs.guards.drive.Tie as tie
+use Rattle.try_vectors.proofs.actions.drive.Statement.{statement}
+use Rattle.try_vectors.proofs.actions.drive.Tie as tie
 
 abbrev Inv-loop : tie.InvT-loop
-Inv-loop table actions driven₀ i₀ t6 driven i = i ≤ length actions
+Inv-loop set table actions end driven₀ i₀ t8 driven i = (i ≤ end) × (end ≤ length actions)
 
 abbrev μ-loop : tie.MeasureT-loop
-μ-loop table actions driven₀ i₀ t6 driven i = length actions - i
+μ-loop set table actions end driven₀ i₀ t8 driven i = end - i
+
+find-requires : tie.Need-find-requires Inv-loop μ-loop
+find-requires c κs = search needs
 
 loop-holds : tie.Need-loop-holds Inv-loop μ-loop
 loop-holds c = search needs
@@ -47,6 +50,7 @@ drive-spec =
     (tie.spec
     Inv-loop
     μ-loop
+    find-requires
     loop-holds
     shared-slice-read-act
     act-requires
