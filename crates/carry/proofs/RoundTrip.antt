@@ -1,4 +1,4 @@
--- A written record holds what was written: its parts are the set's bytes, the outcomes, the count and the lost byte, and it passes every row that looks at the record alone. Two records are equal only where what they hold is, and a record that passes is the record of what it holds. The bytes are told apart by place. Assumes nothing.
+-- Reading gives back what a record was written from, a written record passes every row that looks at the record alone, and a record that passes is the one of what it holds. The bytes are told apart by place, and the last ones by their distance from the end. Assumes nothing.
 use mathlib.Core.Path.{_≡_, refl, sym, ap, ap₂, _∙_}
 use mathlib.Core.Bool.{Bool, true, false}
 use mathlib.Core.List.{List, [], _∷_, _++_, map, append-assoc}
@@ -108,7 +108,7 @@ module _ (h : ℕ) (set : List ℕ) (g : Guard) (held : Held h g) where
       ap (λ z. byteAt z n) (sym (append-assoc (headBytes h set) (bits ++ count) lost))
       ∙ getD-at front (bit (g .lost)) [] 0 n (omega (arith, record-length, length-append set (bits ++ count), length-append bits count, bits-length))
 
-  -- "the length field, 21 and the bytes of the set" and "the version, 1"
+  -- its length field says how many bytes follow, and its version is 1
   record-head : first (headRows (aroundSet h) 18 18 (recordOf h set g)) ≡ passed
   record-head = head-right (aroundSet h) 18 18 (recordOf h set g) (omega (arith, record-length)) (omega (arith, record-length, four-number (1 + length set + tailSize h))) refl
 

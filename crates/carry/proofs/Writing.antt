@@ -6,8 +6,8 @@ use Prim.Native.Nat.{ℕ, suc, _+_, _≤_, _<_}
 use native.Mathlib.Numerals.{add-one}
 use native.Mathlib.Omega.{arith}
 use mir.Val.{boolByte}
-use lib.ListN.{length, getD, take, drop, set, length-append, List·getD-map}
-use lib.Seq.{length-take-le, take-all, drop-cons, set-at, paste, paste-suc}
+use lib.ListN.{length, getD, take, drop, set, length-append, length-set, List·getD-map}
+use lib.Seq.{length-take-le, take-all, drop-cons, set-at, paste, paste-zero, paste-suc}
 use Rattle.layout.specs.Bytes.{byteAt, fourBytes}
 use Rattle.layout.proofs.Runs.{put-next, put-then}
 use Rattle.patterns.specs.Outcome.{bit}
@@ -21,20 +21,29 @@ cast-bit false = refl
 pub cast-at : (os : List Bool) (i : ℕ) → boolByte (getD os i false) ≡ byteAt (map bit os) i
 cast-at os i = cast-bit (getD os i false) ∙ sym (List·getD-map bit os i false)
 
--- one more of the bytes of s stands in a buffer d from a place on
-pub paste-turn : (d s out : List ℕ) (at i v : ℕ) → at + i < length d → i < length s → v ≡ byteAt s i → out ≡ paste d at s i → set out (at + i) v ≡ paste d at s (i + 1)
-paste-turn d s out at i v h l e f =
-    ap₂ (λ o x. set o (at + i) x) f e ∙ paste-suc d at s i 0 h l ∙ ap (paste d at s) (sym (add-one i))
+-- the first i bytes of s stand in a buffer d from a place on
+pub record Pasted (d : List ℕ) (at : ℕ) (s : List ℕ) (i : ℕ) (out : List ℕ) : Type 0 where
+  pub same-length : length out ≡ length d
+  pub pasted : out ≡ paste d at s i
 
--- all of them
-pub paste-end : (d s out : List ℕ) (at i n : ℕ) → i ≡ n → length s ≡ n → out ≡ paste d at s i → out ≡ take at d ++ s ++ drop (at + n) d
-paste-end d s out at i n e l f = f ∙ ap (paste d at s) e ∙ ap (λ z. take at d ++ z ++ drop (at + n) d) (take-all n s (omega arith))
+pub pasted-none : {d s : List ℕ} {at : ℕ} → Pasted d at s 0 d
+pasted-none {d} {s} {at} = record { same-length = refl; pasted = paste-zero d at s }
+
+module _ {d s out : List ℕ} {at i : ℕ} (p : Pasted d at s i out) where
+  pub pasted-turn : (v : ℕ) → at + i < length out → i < length s → v ≡ byteAt s i → Pasted d at s (i + 1) (set out (at + i) v)
+  pasted-turn v h l e = record {
+    same-length = length-set out (at + i) v ∙ p .same-length;
+    pasted = ap₂ (λ o x. set o (at + i) x) (p .pasted) e ∙ paste-suc d at s i 0 (omega arith) l ∙ ap (paste d at s) (sym (add-one i));
+  }
+
+  pub pasted-all : (n : ℕ) → i ≡ n → length s ≡ n → out ≡ take at d ++ s ++ drop (at + n) d
+  pasted-all n e l = p .pasted ∙ ap (paste d at s) e ∙ ap (λ z. take at d ++ z ++ drop (at + n) d) (take-all n s (omega arith))
 
 -- a number of four bytes, the version and then s, at the start of a buffer
 pub set-written : (d four out s : List ℕ) (m i : ℕ) → 5 + length s ≤ length d → four ≡ take 0 d ++ fourBytes m ++ drop 4 d → i ≡ length s
-    → out ≡ paste (set four 4 1) 5 s i → out ≡ fourBytes m ++ (1 ∷ s) ++ drop (5 + length s) d
+    → Pasted (set four 4 1) 5 s i out → out ≡ fourBytes m ++ (1 ∷ s) ++ drop (5 + length s) d
 set-written d four out s m i h e l f =
-    paste-end (set four 4 1) s out 5 i (length s) l refl f
+    pasted-all f (length s) l refl
     ∙ ap (λ z. take 5 (set z 4 1) ++ s ++ drop (5 + length s) (set z 4 1)) (e ∙ ap (λ z. fourBytes m ++ z) (drop-cons d 4 0 (omega arith)))
     ∙ put-next d (fourBytes m ++ 1 ∷ []) s 5 (length s) refl
 

@@ -1,17 +1,16 @@
 -- `carry::write::put_set` meets its contract. The length field and the version stand first; the invariant: past byte 5 stand the first i bytes of the set, and then what stood there. Assumes nothing.
-use mathlib.Core.Path.{_≡_, refl, _∙_}
+use mathlib.Core.Path.{refl, _∙_}
 use Prim.Native.Nat.{_+_, _-_, _≤_}
 use native.Mathlib.Omega.{arith}
 use borrow.Author.Needs.{needs}
-use lib.ListN.{length, set, length-set}
-use lib.Seq.{paste, paste-zero}
+use lib.ListN.{length, length-set}
 use Rattle.carry.specs.Bytes.{carried, tailSize}
-use Rattle.carry.proofs.Writing.{paste-turn, set-written}
+use Rattle.carry.proofs.Writing.{Pasted, pasted-none, pasted-turn, set-written}
 use Rattle.carry.proofs.write.put_set.Statement.{statement}
 use Rattle.carry.proofs.write.put_set.Tie as tie
 
 abbrev Inv-loop : tie.InvT-loop
-Inv-loop set out₀ i₀ out i = (i ≤ length set) × (length out ≡ length out₀) × (out ≡ paste out₀ 5 set i)
+Inv-loop set out₀ i₀ out i = (i ≤ length set) × (5 + length set ≤ length out) × Pasted out₀ 5 set i out
 
 abbrev μ-loop : tie.MeasureT-loop
 μ-loop set out₀ i₀ out i = length set - i
@@ -29,7 +28,7 @@ slice-write-out : tie.Need-slice-write-out Inv-loop μ-loop
 slice-write-out c = search needs
 
 loop-holds : tie.Need-loop-holds Inv-loop μ-loop
-loop-holds c = (omega arith, refl, paste-zero (set (c .before .before .put-four .last .0) 4 1) 5 (c .before .before .before .before .before .before .args .set .now))
+loop-holds c = (omega arith, simp length-set (omega arith), pasted-none)
 
 shared-slice-read-out : tie.Need-shared-slice-read-out Inv-loop μ-loop
 shared-slice-read-out c = search needs
@@ -38,10 +37,7 @@ add-out : tie.Need-add-out Inv-loop μ-loop
 add-out c = search needs
 
 slice-write-out-2 : tie.Need-slice-write-out-2 Inv-loop μ-loop
-slice-write-out-2 c =
-    let l = c .before .before in
-    let p = l .before .before .before in
-    omega (arith, l .loop .inv .1, length-set (p .put-four .last .0) 4 1, p .put-four .kept .0)
+slice-write-out-2 c = search needs
 
 add-i : tie.Need-add-i Inv-loop μ-loop
 add-i c = search needs
@@ -50,18 +46,10 @@ loop-less : tie.Need-loop-less Inv-loop μ-loop
 loop-less c = search needs
 
 loop-again : tie.Need-loop-again Inv-loop μ-loop
-loop-again c =
-    let l = c .before .before in
-    let p = l .before .before .before in
-    let s = p .before .before .before .before .args .set .now in
-    let d = set (p .put-four .last .0) 4 1 in (
-      omega arith,
-      length-set (l .loop .out) (5 + l .loop .i) _ ∙ l .loop .inv .1,
-      paste-turn d s (l .loop .out) 5 (l .loop .i) _ (omega (arith, length-set (p .put-four .last .0) 4 1, p .put-four .kept .0)) (omega arith) refl (l .loop .inv .2),
-    )
+loop-again c = (omega arith, simp length-set (omega arith), pasted-turn (c .before .before .loop .inv .2) _ (omega arith) (omega arith) refl)
 
 same-length : tie.Need-same-length Inv-loop μ-loop
-same-length c = let p = c .before .before .before .before in c .before .loop .inv .1 ∙ length-set (p .put-four .last .0) 4 1 ∙ p .put-four .kept .0
+same-length c = let p = c .before .before .before .before .put-four in c .before .loop .inv .2 .same-length ∙ length-set (p .last .0) 4 _ ∙ p .kept .0
 
 returns : tie.Need-returns Inv-loop μ-loop
 returns c =
