@@ -21,11 +21,6 @@ use Rattle.sets.specs.Rows.{setRows}
 use Rattle.carry.specs.Bytes.{tailSize, aroundSet, sizeOf, headBytes, tailBytes, recordOf, setIn, outcomeBytes, outcomesIn, countIn, lostByte}
 use Rattle.carry.specs.Rows.{recordRows}
 
--- what a guard in memory has: its outcomes are h, and its count is a number of 64 bits
-pub record Held (h : ℕ) (g : Guard) : Type 0 where
-  pub outcomes : length (g .outcomes) ≡ h
-  pub count : g .count < 18446744073709551616
-
 -- an outcome and its byte
 
 pub outcome-bit : (o : Bool) → outcome (bit o) ≡ o
@@ -60,8 +55,8 @@ module _ (p q : List ℕ) where
   eight-past : (n : ℕ) → n ≡ length p → eightAt (p ++ q) n ≡ eightAt q 0
   eight-past n e = ap₂ (λ a b. a * 4294967296 + b) (four-past 0 n (omega arith)) (four-past 4 (n + 4) (omega arith))
 
--- the parts of a written record
-module _ (h : ℕ) (set : List ℕ) (g : Guard) (held : Held h g) where
+-- the parts of a written record; a guard in memory holds h outcomes
+module _ (h : ℕ) (set : List ℕ) (g : Guard) (held : length (g .outcomes) ≡ h) where
   abbrev bits : List ℕ
   bits = map bit (g .outcomes)
 
@@ -72,7 +67,7 @@ module _ (h : ℕ) (set : List ℕ) (g : Guard) (held : Held h g) where
   lost = bit (g .lost) ∷ []
 
   bits-length : length bits ≡ h
-  bits-length = length-map (g .outcomes) bit ∙ held .outcomes
+  bits-length = length-map (g .outcomes) bit ∙ held
 
   tail-length : length (tailBytes g) ≡ tailSize h
   tail-length = omega (arith, length-append (bits ++ count) lost, length-append bits count, bits-length)
@@ -112,7 +107,7 @@ module _ (h : ℕ) (set : List ℕ) (g : Guard) (held : Held h g) where
   record-head : first (headRows (aroundSet h) 18 18 (recordOf h set g)) ≡ passed
   record-head = head-right (aroundSet h) 18 18 (recordOf h set g) (omega (arith, record-length)) (omega (arith, record-length, four-number (1 + length set + tailSize h))) refl
 
-pub record-accepted : (widest h : ℕ) (set : List ℕ) (g : Guard) → first (setRows widest set) ≡ passed → Held h g → first (recordRows widest h (recordOf h set g)) ≡ passed
+pub record-accepted : (widest h : ℕ) (set : List ℕ) (g : Guard) → first (setRows widest set) ≡ passed → length (g .outcomes) ≡ h → first (recordRows widest h (recordOf h set g)) ≡ passed
 record-accepted widest h set g e held =
     passed-before _ _ (record-head h set g held)
     ∙ passed-before _ _ (ap (λ z. first (setRows widest z)) (set-of-record h set g held) ∙ e)
@@ -120,7 +115,7 @@ record-accepted widest h set g e held =
     ∙ long-enough 19 0 1 (lostByte (recordOf h set g)) (omega (arith, lost-of-record h set g held, bit-le (g .lost)))
 
 -- records that are equal hold the same
-pub same-record : (h : ℕ) (set : List ℕ) (g g′ : Guard) → Held h g → Held h g′ → recordOf h set g ≡ recordOf h set g′
+pub same-record : (h : ℕ) (set : List ℕ) (g g′ : Guard) → length (g .outcomes) ≡ h → length (g′ .outcomes) ≡ h → recordOf h set g ≡ recordOf h set g′
     → (g .lost ≡ g′ .lost) × (g .outcomes ≡ g′ .outcomes) × (g .count ≡ g′ .count)
 same-record h set g g′ a b e = (
   sym (outcome-bit (g .lost)) ∙ ap outcome (sym (lost-of-record h set g a) ∙ ap lostByte e ∙ lost-of-record h set g′ b) ∙ outcome-bit (g′ .lost),

@@ -3,9 +3,10 @@ use mathlib.Core.Path.{_≡_, refl, sym, ap, _∙_}
 use mathlib.Core.Option.{Option, none, some, Option·none-ne-some}
 use mathlib.Core.Bool.{Bool, true, false, true≢false}
 use mathlib.Core.List.{List, [], _∷_}
-use Prim.Native.Nat.{ℕ, _≤_}
-use lib.ListN.{length, take, length-map}
-use lib.Seq.{take-all}
+use Prim.Native.Nat.{ℕ, suc, _+_, _≤_}
+use native.Mathlib.Omega.{arith}
+use borrow.Author.Tests.{ltb-false}
+use lib.ListN.{length, length-map}
 use Rattle.layout.specs.Refusal.{passed, first}
 use Rattle.layout.proofs.Rows.{passed-first}
 use Rattle.patterns.specs.Outcome.{outcome, outcomes, outcomeRows}
@@ -15,20 +16,21 @@ use Rattle.table.specs.Rows.{tableRows}
 use Rattle.table.proofs.Checked.{checked-well-made}
 use Rattle.guard.specs.declared.Guard.{Guard}
 use Rattle.guard.specs.Guard.{mostTold, standing}
-use Rattle.guard.specs.Told.{afterAll, toldAll, outcomesAmong, heard}
+use Rattle.guard.specs.Told.{afterAll, toldAll, heardAfter}
 use Rattle.guard.proofs.Latest.{latest-whole}
+use Rattle.guard.proofs.Heard.{heard-none, heard-one}
 use Rattle.guard.proofs.Walked.{told-walk, lost-when}
 use Rattle.guard.proofs.InTable.{told-heard}
 
--- bytes that 13 lets pass are all heard
-all-outcomes : (bytes : List ℕ) (i : ℕ) → first (outcomeRows bytes i) ≡ passed → outcomesAmong bytes ≡ outcomes bytes
+-- bytes that 13 lets pass are all heard, where the count has room for them
+all-heard : (n : ℕ) (bytes : List ℕ) (i : ℕ) → first (outcomeRows bytes i) ≡ passed → n + length bytes ≤ mostTold → heardAfter n bytes ≡ outcomes bytes
 unfolding outcomeRows
-all-outcomes [] i e = refl
-all-outcomes (byte ∷ bytes) i e =
+all-heard n [] i e h = heard-none n
+all-heard n (byte ∷ bytes) i e h =
     let (f, g) = passed-first _ _ e in
-    rw (f) (ap (λ l. outcome byte ∷ l) (all-outcomes bytes _ g))
+    heard-one n byte bytes (ltb-false 1 byte f) (omega arith) ∙ ap (λ l. outcome byte ∷ l) (all-heard (n + 1) bytes (suc i) g (omega arith))
 
-module _ (b : List ℕ) (checked : first (tableRows b) ≡ passed) (bytes : List ℕ) (all : first (outcomeRows bytes 0) ≡ passed) (hs : List Bool) (many : length bytes ≡ length hs) (few : length bytes ≤ mostTold) where
+module _ (b : List ℕ) (checked : first (tableRows b) ≡ passed) (bytes : List ℕ) (all : first (outcomeRows bytes 0) ≡ passed) (hs : List Bool) (many : length bytes ≡ length hs) (few : 0 + length bytes ≤ mostTold) where
   abbrev m : Machine
   m = machineOf b
 
@@ -40,11 +42,7 @@ module _ (b : List ℕ) (checked : first (tableRows b) ≡ passed) (bytes : List
 
   told-them : g ≡ afterAll m (standing 0 hs 0) p
   told-them =
-      let heard-all : heard bytes ≡ p = ap (take mostTold) among ∙ take-all mostTold p (rw (length-map bytes outcome) few) in
-      told-heard b checked (standing 0 hs 0) bytes (checked-well-made b checked .start-below) ∙ ap (afterAll m (standing 0 hs 0)) heard-all
-    where
-      among : outcomesAmong bytes ≡ p
-      among = all-outcomes bytes 0 all
+      told-heard b checked (standing 0 hs 0) bytes (checked-well-made b checked .start-below) ∙ ap (afterAll m (standing 0 hs 0)) (all-heard 0 bytes 0 all few)
 
   pub walked-lost : g .lost ≡ true → walk m 0 p ≡ none
   walked-lost e = go (walk m 0 p) refl

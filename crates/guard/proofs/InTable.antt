@@ -4,13 +4,11 @@ use mathlib.Core.Logic.{dite}
 use mathlib.Core.Option.{Option, none, some}
 use mathlib.Core.Bool.{Bool, true, false, cond}
 use mathlib.Core.List.{List, [], _∷_}
-use Prim.Native.Nat.{ℕ, suc, _+_, _-_, _≤_, _<_}
+use Prim.Native.Nat.{ℕ, _+_, _≤_, _<_}
 use native.Mathlib.Decide.{decLt}
 use native.Mathlib.Omega.{arith}
 use borrow.Author.Tests.{lt-ltb, le-ltb, le-leb, lt-leb}
 use lib.Dec.{leb, ltb}
-use lib.ListN.{take}
-use lib.Seq.{take-nil}
 use Rattle.table.specs.Shared.{Row, row, passed, refused, first, outcome, Machine, WellMade}
 use Rattle.table.specs.Bytes.{stateCount, machineOf}
 use Rattle.table.specs.Rows.{tableRows, lookRows}
@@ -19,7 +17,8 @@ use Rattle.table.proofs.Checked.{checked-looks, checked-well-made}
 use Rattle.guard.specs.declared.Guard.{Guard}
 use Rattle.guard.specs.declared.Asked.{Asked}
 use Rattle.guard.specs.Guard.{mostTold, fresh, askSays, AskedAs, lostIn, moved, after, tellRows, toldWhen}
-use Rattle.guard.specs.Told.{afterAll, toldAll, outcomesAmong, heardAfter, heard, ByWalk}
+use Rattle.guard.specs.Told.{afterAll, toldAll, heardAfter, heard, ByWalk}
+use Rattle.guard.proofs.Heard.{heard-none, heard-not, heard-one, heard-full}
 use Rattle.guard.proofs.Walked.{count-grows}
 use Rattle.guard.proofs.Answered.{ask-by-walk}
 
@@ -63,34 +62,25 @@ module _ (b : List ℕ) (e : first (tableRows b) ≡ passed) where
     pub full-in-table : (byte : ℕ) → byte ≤ 1 → mostTold ≤ g .count → first (tellRows b g byte) ≡ refused 17 0
     full-in-table byte l c = left-17 byte l ∙ first-here 17 0 (leb mostTold (g .count)) [] (le-leb mostTold (g .count) c)
 
-  -- at the largest count nothing more is heard
-  none-heard : (n : ℕ) (bytes : List ℕ) → mostTold ≤ n → heardAfter n bytes ≡ []
-  none-heard n bytes h = let z : mostTold - n ≡ 0 = omega arith in ap (λ k. take k (outcomesAmong bytes)) z
-
-  -- below it one more is
-  one-heard : (n : ℕ) (o : Bool) (p : List Bool) → n < mostTold → take (mostTold - n) (o ∷ p) ≡ o ∷ take (mostTold - (n + 1)) p
-  one-heard n o p h = let z : mostTold - n ≡ suc (mostTold - (n + 1)) = omega arith in ap (λ k. take k (o ∷ p)) z
-
   pub told-heard : (g : Guard) (bytes : List ℕ) → g .state < stateCount b → toldAll b g bytes ≡ afterAll m g (heardAfter (g .count) bytes)
-  told-heard g [] h = ap (afterAll m g) (sym (take-nil (mostTold - g .count)))
+  told-heard g [] h = ap (afterAll m g) (sym (heard-none (g .count)))
   told-heard g (byte ∷ bytes) h =
       let o = outcome byte in
       dite (decLt 1 byte)
-      (λ l. ap (λ t. toldAll b (toldWhen t m g o) bytes) (refused-in-table g h byte l) ∙ told-heard g bytes h ∙ sym (rw (lt-ltb 1 byte l)))
+      (λ l. ap (λ t. toldAll b (toldWhen t m g o) bytes) (refused-in-table g h byte l) ∙ told-heard g bytes h ∙ ap (afterAll m g) (sym (heard-not (g .count) byte bytes l)))
       (λ l.
       let k : byte ≤ 1 = omega arith in
       dite (decLt (g .count) mostTold)
       (λ c.
-      let heard-one : heardAfter (g .count) (byte ∷ bytes) ≡ o ∷ heardAfter (g .count + 1) bytes = rw (le-ltb 1 byte k) (one-heard (g .count) o (outcomesAmong bytes) c) in
       ap (λ t. toldAll b (toldWhen t m g o) bytes) (told-in-table g h byte k c)
       ∙ told-heard (after m g o) bytes (state-below m (checked-well-made b e) g o h)
       ∙ ap (λ n. afterAll m (after m g o) (heardAfter n bytes)) (count-grows m g o)
-      ∙ ap (afterAll m g) (sym heard-one))
+      ∙ ap (afterAll m g) (sym (heard-one (g .count) byte bytes k c)))
       (λ c.
       let full : mostTold ≤ g .count = omega arith in
       ap (λ t. toldAll b (toldWhen t m g o) bytes) (full-in-table g h byte k full)
       ∙ told-heard g bytes h
-      ∙ ap (afterAll m g) (none-heard (g .count) bytes full ∙ sym (none-heard (g .count) (byte ∷ bytes) full))))
+      ∙ ap (afterAll m g) (heard-full (g .count) bytes full ∙ sym (heard-full (g .count) (byte ∷ bytes) full))))
 
   some-state : 0 < stateCount b
   some-state = checked-well-made b e .start-below

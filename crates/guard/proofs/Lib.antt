@@ -1,4 +1,5 @@
 pub mod Latest
+pub mod Heard
 pub mod Walked
 pub mod Answered
 pub mod InTable

@@ -1,5 +1,5 @@
 -- A guard that is told outcomes walks them and counts them: it is lost exactly when they can't be walked, and keeps the state and the outcomes from before the miss that lost it. Over any number of outcomes held. Assumes nothing.
-use mathlib.Core.Path.{_≡_, refl, sym, ap, _∙_}
+use mathlib.Core.Path.{_≡_, refl, sym, ap, subst, _∙_}
 use mathlib.Core.Logic.{_↔_}
 use mathlib.Core.Option.{Option, none, some, Option·none-ne-some}
 use mathlib.Core.Bool.{Bool, true, false, true≢false}
@@ -9,10 +9,10 @@ use native.Mathlib.Nat.{add-zero}
 use native.Mathlib.Omega.{arith}
 use lib.ListN.{length}
 use Rattle.table.specs.Shared.{Machine, walk, Can}
-use Rattle.table.proofs.Shared.{walk-first}
+use Rattle.table.proofs.Shared.{walk-first, walk-snoc}
 use Rattle.guard.specs.declared.Guard.{Guard}
-use Rattle.guard.specs.Guard.{standing, lostIn, latest, after}
-use Rattle.guard.specs.Told.{afterAll}
+use Rattle.guard.specs.Guard.{standing, lostIn, latest, after, toldOf}
+use Rattle.guard.specs.Told.{afterAll, toldAll}
 use Rattle.guard.proofs.Latest.{latest-none, latest-latest}
 
 one-more : (n k : ℕ) → n + 1 + k ≡ n + suc k
@@ -86,3 +86,36 @@ module _ (m : Machine) where
 
     pub lost-not-walked : (g .lost ≡ true) ↔ (Can m s p → ⊥)
     lost-not-walked = (λ e c. true≢false (sym e ∙ ap (λ z. z .lost) (told-walk s (c .0) os n p (c .1))), lost-when)
+
+  -- outcomes after others
+  pub after-then : (g : Guard) (p q : List Bool) → afterAll m g (p ++ q) ≡ afterAll m (afterAll m g p) q
+  after-then g [] q = refl
+  after-then g (o ∷ p) q = after-then (after m g o) p q
+
+-- bytes after others
+pub told-then : (b : List ℕ) (g : Guard) (bytes rest : List ℕ) → toldAll b g (bytes ++ rest) ≡ toldAll b (toldAll b g bytes) rest
+told-then b g [] rest = refl
+told-then b g (byte ∷ bytes) rest = told-then b (toldOf b g byte) bytes rest
+
+-- wherever a guard stands, lost or not, outcomes lead there, and what it holds are the last of those
+module _ (m : Machine) (start : ℕ) (hs : List Bool) where
+  pub record Led (g : Guard) : Type 0 where
+    pub by : List Bool
+    pub leads : walk m start by ≡ some (g .state)
+    pub holds : g .outcomes ≡ latest hs by
+
+  pub led-on : (q p : List Bool) (s n : ℕ) → walk m start q ≡ some s → Led (afterAll m (standing s (latest hs q) n) p)
+  led-on q [] s n e = record { by = q; leads = e; holds = refl }
+  led-on q (o ∷ p) s n e = go (m .next s o) refl (λ u. led-on (q ++ o ∷ []) p u (n + 1))
+    where
+      go : (x : Option ℕ) → m .next s o ≡ x → ((u : ℕ) → walk m start (q ++ o ∷ []) ≡ some u → Led (afterAll m (standing u (latest hs (q ++ o ∷ [])) (n + 1)) p))
+          → Led (afterAll m (standing s (latest hs q) n) (o ∷ p))
+      go none f ih =
+          subst Led (sym (ap (λ z. afterAll m z p) (step-blocked m s (latest hs q) n o f) ∙ lost-stays m s (latest hs q) (n + 1) p))
+          (record { by = q; leads = e; holds = refl })
+      go (some u) f ih =
+          subst Led (sym (ap (λ z. afterAll m z p) (step-moves m s u (latest hs q) n o f ∙ ap (λ l. standing u l (n + 1)) (latest-latest hs q (o ∷ [])))))
+          (ih u (walk-snoc m start s q o e ∙ f))
+
+  pub led-from-start : (p : List Bool) (n : ℕ) → Led (afterAll m (standing start hs n) p)
+  led-from-start p n = subst (λ os. Led (afterAll m (standing start os n) p)) (latest-none hs) (led-on [] p start n refl)

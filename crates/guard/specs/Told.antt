@@ -28,7 +28,7 @@ outcomesAmong [] = []
 outcomesAmong (byte ∷ bytes) = cond (ltb 1 byte) (outcomesAmong bytes) (outcome byte ∷ outcomesAmong bytes)
 
 -- the outcomes told to a guard that was told so many before: those among the bytes, up to the largest count. RULES, What a refusal leaves: "A refused tell has told nothing."
-abbrev pub heardAfter : (count : ℕ) → List ℕ → List Bool
+unfoldable pub heardAfter : (count : ℕ) → List ℕ → List Bool
 heardAfter count bytes = take (mostTold - count) (outcomesAmong bytes)
 
 -- and to one with nothing told
