@@ -5,3 +5,4 @@ pub mod Reading
 pub mod Writing
 pub mod RoundTrip
 pub mod OneResult
+pub mod Back
