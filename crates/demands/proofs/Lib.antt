@@ -10,6 +10,7 @@ pub mod Refusing
 pub mod Numbers
 pub mod Answers
 pub mod Guarded
+pub mod Through
 pub mod FlatAnswers
 pub mod FlatComparison
 pub mod SmallMachines
