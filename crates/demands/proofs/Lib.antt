@@ -3,6 +3,7 @@ pub mod Demand2
 pub mod Demand3
 pub mod Boundary
 pub mod NightLog
+pub mod Carried
 pub mod WorkedRows
 pub mod Tables
 pub mod Room
