@@ -221,8 +221,11 @@ static void refusals(void) {
     HOLDS(floe_judge(one_of_two, sizeof one_of_two, no_outcome, 1).refused == FLOE_REFUSED_OUTCOME);
     guard.count = UINT64_MAX;
     HOLDS(floe_guard_tell(guard, table, length, FLOE_HIT).refused == FLOE_REFUSED_COUNT);
+    HOLDS(floe_guard_tell(guard, table, length, 2).refused == FLOE_REFUSED_OUTCOME);
+    guard.lost = true;
+    HOLDS(floe_guard_tell(guard, table, length, FLOE_HIT).refused == FLOE_REFUSED_COUNT);
     guard.count--;
-    HOLDS(floe_guard_tell(guard, table, length, FLOE_HIT).refused == FLOE_ACCEPTED);
+    HOLDS(floe_guard_tell(guard, table, length, FLOE_HIT).guard.count == UINT64_MAX);
     table[4] = 2;
     HOLDS(floe_check_table(table, length).refused == FLOE_REFUSED_TABLE_VERSION);
 }
