@@ -174,7 +174,8 @@ static void records(floe_guard guard, const uint8_t *set, size_t set_len, const 
         free(cut);
     }
     print_started(floe_carry_read(record, length, table, table_len - 1));
-    const size_t places[] = {4, 9, 11, length - 20, length - 1};
+    size_t outcomes = length - FLOE_HELD - 9;
+    const size_t places[] = {4, 9, 11, outcomes, length - 1};
     for (size_t i = 0; i < sizeof places / sizeof *places; i++) {
         uint8_t *spoilt = lent(record, length);
         spoilt[places[i]] = 5;
@@ -182,7 +183,7 @@ static void records(floe_guard guard, const uint8_t *set, size_t set_len, const 
         print_started(floe_carry_read(spoilt, length, nothing, 0));
         free(spoilt);
     }
-    memset(record + length - 20, 0, FLOE_HELD);
+    memset(record + outcomes, 0, FLOE_HELD);
     print_started(floe_carry_read(record, length, table, table_len));
     free(record);
 }

@@ -9,6 +9,7 @@ use std::process::{Command, Output};
 use std::slice;
 
 use floelinnet_tests::floe::{builder, carry, compare, guard, log, row, sets, table, verdict};
+use floelinnet_tests::reference::guard::HELD;
 use floelinnet_tests::tools;
 use programs::{file, prints, prints_given, COMPILERS};
 
@@ -141,14 +142,14 @@ fn calls() {
         line!(carry::read(&record[..left], &built));
     }
     line!(carry::read(&record, &built[..built.len() - 1]));
-    for place in [4, 9, 11, record.len() - 20, record.len() - 1] {
+    let outcomes = record.len() - HELD - 9;
+    for place in [4, 9, 11, outcomes, record.len() - 1] {
         let mut spoilt = record.clone();
         spoilt[place] = 5;
         line!(carry::read(&spoilt, &built));
         line!(carry::read(&spoilt, &[]));
     }
-    let outcomes = record.len() - 20;
-    record[outcomes..][..11].fill(0);
+    record[outcomes..][..HELD].fill(0);
     line!(carry::read(&record, &built));
 
     let mut guards = [guard::new(); 3];

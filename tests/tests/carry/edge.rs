@@ -3,6 +3,7 @@
 use floelinnet_tests::damage::{damage, drawn_table, spoilt_record, spoilt_set};
 use floelinnet_tests::draw::{cases, Draw};
 use floelinnet_tests::memory::Edge;
+use floelinnet_tests::reference::carry::{HEAD, TAIL};
 use floelinnet_tests::reference::{carry, sets};
 use floelinnet_tests::{expected, floe};
 
@@ -44,7 +45,7 @@ fn writing() {
     let mut seen = [0; 10];
     for _ in 0..cases(10_000) {
         let set = if draw.one_in(3) { spoilt_set(&mut draw) } else { sets::bytes(&draw.set()) };
-        let needed = 25 + set.len();
+        let needed = HEAD + TAIL + set.len();
         let room = draw.of(&[0, 9, needed - 1, needed, needed, needed + 1]);
         let mut want: Vec<u8> = (0..room).map(|_| draw.byte()).collect();
         let lent = record_edge.lend(&want);

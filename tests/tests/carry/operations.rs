@@ -3,7 +3,8 @@
 
 use floelinnet_tests::damage::damage;
 use floelinnet_tests::draw::{cases, Draw};
-use floelinnet_tests::reference::guard::{start, tell, Answer, Guard, Story, FRESH};
+use floelinnet_tests::reference::carry::{HEAD, TAIL};
+use floelinnet_tests::reference::guard::{start, tell, Answer, Guard, Story, FRESH, HELD};
 use floelinnet_tests::reference::{carry, Refusal};
 use floelinnet_tests::{expected, floe};
 
@@ -90,12 +91,12 @@ impl Calls for Row {
 
 /// The guard is switched off: it is written into a buffer that may be longer, it is forgotten, and it is read back.
 fn change(draw: &mut Draw, guard: &mut floe::Guard, set: &[u8], table: &[u8], seen: &mut Seen) {
-    let mut record = vec![7; 25 + set.len() + draw.below(3)];
+    let mut record = vec![7; HEAD + TAIL + set.len() + draw.below(3)];
     let length = floe::carry::write(*guard, set, &mut record).length as usize;
-    assert_eq!(length, 25 + set.len());
+    assert_eq!(length, HEAD + TAIL + set.len());
     seen.changes += 1;
     seen.changes_lost += usize::from(guard.lost);
-    *guard = floe::Guard { state: 999, lost: !guard.lost, outcomes: [false; 11], count: 1 << 40 };
+    *guard = floe::Guard { state: 999, lost: !guard.lost, outcomes: [false; HELD], count: 1 << 40 };
     // The power is cut in the middle of a write, and the record is there from before.
     if draw.one_in(4) {
         let cut = floe::carry::read(&record[..draw.below(length)], table);

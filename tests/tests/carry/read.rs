@@ -100,8 +100,8 @@ fn worked() {
     }
 }
 
-/// "a record cut short is refused": at each length, and each longer one. With a true length field what is left between
-/// the version and the last 20 bytes is no set.
+/// A record cut short at each length, and each longer one. With a true length field what is left between the version and
+/// the last 20 bytes is no set.
 #[test]
 fn every_wrong_length() {
     let mut draw = Draw::new(161);
@@ -141,7 +141,7 @@ fn every_byte_changed() {
     }
     assert!([0, 1, 2, 3, 4, 5, 6, 7, 13, 18, 19, 25].iter().all(|&number| seen[number] > 0), "{seen:?}");
     assert_eq!(seen[19], 12 * 254);
-    assert_eq!(seen[13], 12 * 11 * 254);
+    assert_eq!(seen[13], 12 * HELD * 254);
 }
 
 /// Faults of the set in a record, one for each of 1 to 7, and the value beside each.

@@ -1,9 +1,10 @@
-//! "A guard that was started there, told whatever it was told, written with that set and read back on that table, is the
+//! "a guard that was started there, told whatever it was told, written with that set and read back on that table, is the
 //! guard that was written, field for field": by the archive alone, which builds the table itself, and by what the
 //! reference says of the pattern.
 
 use floelinnet_tests::draw::{cases, Draw};
 use floelinnet_tests::floe;
+use floelinnet_tests::reference::carry::TAIL;
 use floelinnet_tests::reference::guard::HELD;
 use floelinnet_tests::reference::limits::{allowed_limits, Limit};
 use floelinnet_tests::reference::{patterns_in_order, sets};
@@ -101,7 +102,7 @@ fn the_oldest_outcome_matters() {
     assert_eq!(guard.outcomes, [false; HELD]);
     assert_eq!(floe::guard::ask(guard, &table).answer, 1);
     let mut record = written(guard, &set);
-    let oldest = record.len() - 20;
+    let oldest = record.len() - TAIL;
     record[oldest] = 1;
     assert_eq!(floe::guard::ask(floe::carry::read(&record, &table).guard, &table).answer, 0);
 }
