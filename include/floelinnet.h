@@ -179,13 +179,14 @@ typedef struct { uint8_t kind, x, k; } floe_limit;
  * that was read has zeros there. */
 typedef struct { uint64_t count; floe_limit limits[FLOE_MOST_LIMITS]; } floe_set;
 
-/* A guard: where one job stands on its table, state; whether its outcomes are lost; the last FLOE_HELD outcomes, oldest
- * first, true for a hit, with hits in the places of those that it wasn't told yet; and how many outcomes it was told,
- * count.
+/* A guard. state: where one job stands on its table. lost: whether a miss was told in panic. outcomes: the last
+ * FLOE_HELD that it was told since its start, oldest first, true for a hit, with hits in the places of those that it
+ * wasn't told yet. count: how many it was told since its start.
  *
  * A guard with nothing told isn't lost, is in state 0, holds hits alone and has the count 0. floe_guard_new gives one,
  * and so does floe_guard_start. All bytes zero are another guard, which holds misses: {0}, memset and calloc don't make
- * one with nothing told. Asking and telling don't show it, but its record is refused, or read back in another state.
+ * one with nothing told. Asking and telling don't show that, but its record may be refused, or be read back in another
+ * state.
  *
  * A guard that is lost keeps the state and the outcomes that it had before the miss in panic. It goes on counting: that
  * miss is counted, and so is every outcome that it is told later.
@@ -193,8 +194,8 @@ typedef struct { uint64_t count; floe_limit limits[FLOE_MOST_LIMITS]; } floe_set
  * It belongs to the table that it was started on, and no call can see which that was: on another table its state is
  * taken for the one of that number there, and refused only where there is none. To copy it is to copy the job's
  * standing. The bytes of lost and of outcomes are 0 or 1, as in every C bool: a guard that nobody wrote, or whose bytes
- * come from elsewhere, is the caller's to rule out. To store a guard is what records are for. Some of its bytes hold
- * nothing, so two guards are compared field by field, and not by memcmp. */
+ * come from elsewhere, is the caller's to rule out, and a guard that has to be stored is stored as a record. Some of
+ * its bytes hold nothing, so two guards are compared field by field, and not by memcmp. */
 typedef struct { uint16_t state; bool lost; bool outcomes[FLOE_HELD]; uint64_t count; } floe_guard;
 
 typedef struct { uint64_t refused, at; floe_set set; } floe_set_read;
@@ -388,14 +389,16 @@ FLOE_NODISCARD floe_done floe_row_tell(floe_guard *row, size_t count, size_t job
  *     floe_written stored = floe_carry_write(guard, limits, limits_len, record, sizeof record);
  *     floe_started again = floe_carry_read(record, stored.length, table, table_len);
  *
- * again.guard is then guard, field for field, if guard was started on that table: it answers every ask and tell as one
- * that was never switched off, through any number of changes. A refused writing needs no test of its own here: its
- * length is 0, and reading refuses a record of no bytes.
+ * again.guard is then guard, field for field, if guard was started and told on that table: it answers every ask and
+ * tell as one that was never switched off, through any number of changes. A refused writing needs no test of its own
+ * here: its length is 0, and reading refuses a record of no bytes.
  *
  * Which table. A record doesn't say of which table it is, and reading doesn't ask whether the table was made of the
- * record's set: on another table it gives the guard in the state where the walk ends there, or refuses by 25. So either
- * build the table from the set that the record carries, or keep set and table together and read only records that carry
- * that set: record_len is FLOE_RECORD_SIZE(limits_len), and memcmp(record + 5, limits, limits_len) is 0.
+ * record's set: on another table it gives the guard in the state where the walk ends there, or refuses by 25. So keep
+ * the set and its table together and read only a record that carries this set: its length is
+ * FLOE_RECORD_SIZE(limits_len), and memcmp(record + 5, limits, limits_len) is 0. Or build the table from the set that
+ * the record carries: its bytes are those from record + 5 on, FLOE_RECORD_SIZE(0) fewer than the record has, and a
+ * record that hasn't even so many carries none.
  *
  * What can't be noticed. A record that was cut short is refused by 18. But it has no check sum, and a record that is
  * written over the old one and torn in the middle has bytes of both, which may pass every test and be the guard of

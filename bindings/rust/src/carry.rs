@@ -3,7 +3,7 @@ use crate::refused::accepted;
 use crate::{Refused, HELD};
 
 /// The length in bytes of the carry-over record of a guard and a set of so many bytes: a head of 5, the set, [`HELD`]
-/// outcomes, and 9 for the count and the lost byte.
+/// outcomes, and 9 for the count and the lost byte. No record is shorter than `record_size(0)`.
 ///
 /// ```
 /// use floelinnet::{record_size, LONGEST_RECORD, LONGEST_SET};
@@ -85,8 +85,9 @@ impl Guard {
     /// ```
     ///
     /// A record doesn't say of which table it is, and whether the table was made of the record's set isn't asked: on
-    /// another table the guard is in the state where the walk ends there, or 25 refuses it. So either build the table
-    /// from the set that the record carries, or keep set and table together and read only records that carry that set:
+    /// another table the guard is in the state where the walk ends there, or 25 refuses it. So build the table from the
+    /// set that the record carries, which is `record[5..record.len() - HELD - 9]` where there are so many bytes; or keep
+    /// a set and its table together and read only records that carry this set:
     ///
     /// ```
     /// use floelinnet::record_size;
