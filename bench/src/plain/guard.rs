@@ -40,12 +40,17 @@ pub struct Guard {
 
 pub const NEW: Guard = Guard { state: 0, lost: false, outcomes: [true; HELD], count: 0 };
 
-/// The whole table is tested.
+/// The whole table is tested: its head with the entry of state 0, and then all entries.
 #[inline(never)]
 pub fn start(table: &[u8]) -> Result<Guard, u8> {
-    let states = states(table)?;
-    for state in 0..states {
-        entry_of(table, states, state)?;
+    entry(table, 0)?;
+    let pair = |bytes: &[u8]| u16::from_be_bytes([bytes[0], bytes[1]]);
+    let states = pair(&table[5..]);
+    for entry in table[7..].chunks_exact(4) {
+        let (miss, hit) = (pair(entry), pair(&entry[2..]));
+        if (miss >= states && miss != 0xFFFF) || hit >= states {
+            return Err(12);
+        }
     }
     Ok(NEW)
 }
@@ -91,14 +96,6 @@ fn test_job<T>(row: &[T], job: usize) -> Result<(), u8> {
 }
 
 fn entry(table: &[u8], state: u16) -> Result<(u16, u16), u8> {
-    let states = states(table)?;
-    if state >= states {
-        return Err(12);
-    }
-    entry_of(table, states, state)
-}
-
-fn states(table: &[u8]) -> Result<u16, u8> {
     if table.len() < 7 {
         return Err(10);
     }
@@ -109,22 +106,20 @@ fn states(table: &[u8]) -> Result<u16, u8> {
     if table[4] != 1 {
         return Err(11);
     }
-    let states = u16::from_be_bytes([table[5], table[6]]);
-    if states == 0 || states > 2048 || length != 3 + 4 * usize::from(states) {
+    let pair = |at: usize| u16::from_be_bytes([table[at], table[at + 1]]);
+    let states = pair(5);
+    if states == 0 || states > 2048 || length != 3 + 4 * usize::from(states) || state >= states {
         return Err(12);
     }
-    Ok(states)
-}
-
-fn entry_of(table: &[u8], states: u16, state: u16) -> Result<(u16, u16), u8> {
-    let (miss, hit) = (after(table, state, 0), after(table, state, 1));
+    let at = 7 + 4 * usize::from(state);
+    let (miss, hit) = (pair(at), pair(at + 2));
     if (miss >= states && miss != 0xFFFF) || hit >= states {
         return Err(12);
     }
     Ok((miss, hit))
 }
 
-/// What a table that was tested has there.
+/// What follows in a table that was tested.
 pub fn after(table: &[u8], state: u16, outcome: u8) -> u16 {
     let at = 7 + 4 * usize::from(state) + 2 * usize::from(outcome);
     u16::from_be_bytes([table[at], table[at + 1]])
