@@ -1,5 +1,5 @@
-//! A lookup in a table with the tests that ask and tell make: 10, 11, the counts in 12 and the state's own entry. It has
-//! a state alone; below it stands a whole guard, with what the rules name.
+//! A lookup in a table with the tests that ask and tell make: 10, 11, the counts in 12 and the state's own entry. It
+//! has a state alone; below it stands a whole guard, with what the rules name.
 
 use super::verdict::HITS;
 
