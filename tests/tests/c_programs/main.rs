@@ -281,6 +281,21 @@ fn shown_forms() {
     prints(&source, &["2 1", "0 1", "1 0", "2 2 1"]);
 }
 
+/// The header and the rules show a record: the one that the archive writes of the guard and the set that they name.
+#[test]
+fn shown_record() {
+    let table = [0, 0, 0, 0x0B, 1, 0, 2, 0, 1, 0, 0, 0xFF, 0xFF, 0, 0];
+    let told = guard::tell(guard::start(&table).guard, &table, 0).guard;
+    let mut record = [0; 34];
+    assert_eq!(carry::write(told, &[0, 0, 0, 5, 1, 1, 0, 1, 2], &mut record).length, 34);
+    let words: Vec<String> = record.iter().map(|byte| format!("{byte:02X}")).collect();
+    for page in ["include/floelinnet.h", "docs/RULES.md"] {
+        let text = read_to_string(file(page)).unwrap();
+        let spaced = text.split_whitespace().collect::<Vec<_>>().join(" ");
+        assert!(spaced.contains(&words.join(" ")), "{page}: {words:?}");
+    }
+}
+
 /// What the archive exports the header declares, every function with the attribute. dropped.c calls each and drops what
 /// it answers, and every compiler says so.
 #[test]

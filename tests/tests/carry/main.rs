@@ -4,6 +4,7 @@ mod edge;
 mod operations;
 mod read;
 mod round_trip;
+mod vast;
 mod write;
 
 use floelinnet_tests::draw::Draw;

@@ -259,3 +259,25 @@ fn all_outcomes() {
         assert!((100..2000).contains(&walked[1]), "{walked:?}");
     }
 }
+
+/// What the header warns of: a record that is written over the old one and torn in the middle. Many of these pass every
+/// test, and some are the record of neither guard.
+#[test]
+fn torn_writes() {
+    let mut draw = Draw::new(166);
+    let mut of_neither = 0;
+    for Walked { set, table, .. } in &walked(&mut draw, 20) {
+        let mut guard = FRESH;
+        for _ in 0..100 {
+            let old = carry::record(guard, set);
+            guard = tell(guard, table, u8::from(!draw.one_in(3))).unwrap();
+            let new = carry::record(guard, set);
+            for place in 0..=old.len() {
+                let torn = [&new[..place], &old[place..]].concat();
+                let accepted = agree(&torn, table) == 0;
+                of_neither += usize::from(accepted && torn != old && torn != new);
+            }
+        }
+    }
+    assert!(of_neither > 1000, "{of_neither}");
+}
