@@ -12,6 +12,7 @@ pub mod Numbers
 pub mod Answers
 pub mod Guarded
 pub mod Through
+pub mod FallsShort
 pub mod FlatAnswers
 pub mod FlatComparison
 pub mod SmallMachines
