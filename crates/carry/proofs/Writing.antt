@@ -1,6 +1,6 @@
 -- What the writer's stores make of a buffer, over plain lists: the set's bytes after their head, and the outcomes, the count and the lost byte one after the other. Assumes nothing.
 use mathlib.Core.Path.{_≡_, refl, sym, ap, ap₂, _∙_}
-use mathlib.Core.Bool.{Bool, true, false}
+use mathlib.Core.Bool.{Bool, false}
 use mathlib.Core.List.{List, [], _∷_, _++_, map, append-assoc}
 use Prim.Native.Nat.{ℕ, suc, _+_, _≤_, _<_}
 use native.Mathlib.Numerals.{add-one}
@@ -11,13 +11,9 @@ use lib.Seq.{length-take-le, take-all, drop-cons, set-at, paste, paste-zero, pas
 use Rattle.layout.specs.Bytes.{byteAt, fourBytes}
 use Rattle.layout.proofs.Runs.{put-next, put-then}
 use Rattle.patterns.specs.Outcome.{bit}
+use Rattle.patterns.proofs.Outcomes.{cast-bit}
 
--- a truth value as the code makes a byte of it
-pub cast-bit : (b : Bool) → boolByte b ≡ bit b
-cast-bit true = refl
-cast-bit false = refl
-
--- and one of an array
+-- a truth value of an array as the code makes a byte of it
 pub cast-at : (os : List Bool) (i : ℕ) → boolByte (getD os i false) ≡ byteAt (map bit os) i
 cast-at os i = cast-bit (getD os i false) ∙ sym (List·getD-map bit os i false)
 
