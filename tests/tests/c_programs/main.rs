@@ -14,6 +14,12 @@ use floelinnet_tests::tools;
 use programs::{file, prints, prints_given, COMPILERS};
 
 #[test]
+fn operation() {
+    let expected = read_to_string(file("examples/operation.expected")).unwrap();
+    prints(&file("examples/operation.c"), &expected.lines().collect::<Vec<_>>());
+}
+
+#[test]
 fn recorder() {
     let expected = read_to_string(file("examples/recorder.expected")).unwrap();
     prints(&file("examples/recorder.c"), &expected.lines().collect::<Vec<_>>());
@@ -43,7 +49,7 @@ fn readme_shows_the_examples() {
         let begin = format!("```{language}\n");
         readme.split(&begin).skip(1).map(|block| block.split_once("```\n").expect("a block ends").0).collect()
     };
-    let examples = ["examples/recorder.c", "examples/visit.c"].map(|path| read_to_string(file(path)).unwrap());
+    let examples = ["examples/operation.c", "examples/visit.c"].map(|path| read_to_string(file(path)).unwrap());
     assert_eq!(blocks("c"), examples);
     assert!(blocks("text").contains(&&*read_to_string(file("examples/visit.expected")).unwrap()));
 }
