@@ -259,8 +259,15 @@ pub extern "C" fn floe_guard_ask(guard: Guard, table: &[u8]) -> FloeAsked
 {
     let asked = guard.ask(table);
     let answer = asked.answer;
-    let same = asked.guard;
     let said = flat::asked(answer);
+    // Asking changes nothing. A copy of the whole record would be read across what the caller has just stored.
+    let outcomes = guard.outcomes;
+    let same = Guard {
+        state: guard.state,
+        lost: guard.lost,
+        outcomes,
+        count: guard.count,
+    };
     FloeAsked {
         refused: said.refused,
         at: said.at,
