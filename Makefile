@@ -67,6 +67,8 @@ dist: $(ARCHIVE)
 # README's ways in: the examples in C, and the first command, which prints its three lines and no other.
 .PHONY: dist-links table-prints
 dist-links: dist
+	$(CC) examples/operation.c $$(PKG_CONFIG_PATH=dist/lib/pkgconfig pkg-config --cflags --libs floelinnet) -o target/operation
+	$(RUN) target/operation | diff - examples/operation.expected
 	$(CC) examples/recorder.c $$(PKG_CONFIG_PATH=dist/lib/pkgconfig pkg-config --cflags --libs floelinnet) -o target/recorder
 	$(RUN) target/recorder | diff - examples/recorder.expected
 	$(CC) examples/visit.c $$(PKG_CONFIG_PATH=dist/lib/pkgconfig pkg-config --cflags --libs floelinnet) -o target/visit

@@ -1,7 +1,7 @@
 /*
  * Floelinnet for C and C++: limits on missed deadlines, the verdict on a pattern of outcomes, the comparison
- * of two sets of limits, tables made of sets, guards that walk a table while jobs run, alone or in a row, and night
- * logs, in which outcomes are stored.
+ * of two sets of limits, tables made of sets, guards that walk a table while jobs run, alone or in a row, carry-over
+ * records, in which a guard is stored while it is switched off, and night logs, in which outcomes are stored.
  *
  * Link with libfloelinnet.a, which is for x86-64 Linux. `make dist` puts it, this header and a file for pkg-config into
  * dist/. With PKG_CONFIG_PATH set to dist/lib/pkgconfig:
@@ -15,6 +15,9 @@
  * row; a job with other limits has a table of its own. examples/recorder.c is a whole program, docs/COOKBOOK.md has
  * more.
  *
+ * The way through a change of the battery: floe_carry_write makes a record of the guard, which is stored, and when the
+ * power is back floe_carry_read gives that guard.
+ *
  * The way to judge a visit later: floe_log_write makes a night log of its outcomes, which is stored, and floe_log_judge
  * gives the verdict on it, under these or any other limits, and says of a lost one where to look. examples/visit.c is a
  * whole program.
@@ -26,24 +29,25 @@
  * A refused call doesn't say that all is well: `kept` and `covers` are 0, `answer` is FLOE_REFUSED, of a log
  * FLOE_LOG_REFUSED, lengths and counts are 0. It writes to nothing that was lent to it, the row included, but for
  * FLOE_REFUSED_ROOM (see floe_build), and a guard or a place that was handed in comes back as it was. So look at
- * `refused` after a start and after a tell: the guard alone doesn't show that the table wasn't accepted, or the outcome
- * not told.
+ * `refused` after a start, after a tell and after a record is read: the guard alone doesn't show that the table wasn't
+ * accepted, the outcome not told, or the record refused. floe_guard_new alone answers with a guard and nothing else: it
+ * refuses nothing.
  *
  * Pointers. Every pointer is valid for its length: to read, and through a pointer that isn't const also to write.
  * A null pointer is never allowed; a length of 0 wants a pointer that isn't null (in C++ the data() of an empty vector
  * may be), and nothing is read through it.
  * `work` is aligned as a uint16_t, `row` as a floe_guard. What is written in a call (`bytes` of floe_write_set, `work`
- * and `table` of floe_build, `row` of floe_row_start and floe_row_tell, `log` of floe_log_write) overlaps nothing else
- * that is handed over in that call.
+ * and `table` of floe_build, `row` of floe_row_start and floe_row_tell, `record` of floe_carry_write, `log` of
+ * floe_log_write) overlaps nothing else that is handed over in that call.
  *
  * Who owns what. All memory is the caller's. No function allocates, and none keeps a pointer after it returns.
  * Structs are passed and returned by value; none has to be released.
  *
- * Memory. A set has at most 30 bytes, a table at most 8199, a guard 4, a log of n outcomes FLOE_LOG_SIZE(n); building
- * wants a work area of 16384 bytes, which is free again afterwards. No call uses more than 1024 bytes of stack, the
- * record of its answer included, and the archive has no memory of its own. Of the C library it calls memset alone;
- * where that is linked lazily, the dynamic linker takes some stack of its own in the first call (-z now does that
- * before main).
+ * Memory. A set has at most 30 bytes, a table at most 8199, a guard 24, a record at most FLOE_LONGEST_RECORD, a log of
+ * n outcomes FLOE_LOG_SIZE(n); building wants a work area of 16384 bytes, which is free again afterwards. No call uses
+ * more than 1024 bytes of stack, the record of its answer included, and the archive has no memory of its own. Of the C
+ * library it calls memset alone; where that is linked lazily, the dynamic linker takes some stack of its own in the
+ * first call (-z now does that before main).
  *
  * Threads. No state is kept between calls, so any thread may call any function at any time, as long as no other
  * thread writes to what a call reads, or uses what a call writes, while it runs. A row counts as a whole here: while
@@ -58,13 +62,23 @@
 
 /* The version of this header and of the archive that it came with. A program is compiled against the header of the
  * archive that it links. */
-#define FLOE_VERSION "0.5.0"
+#define FLOE_VERSION "0.6.0"
 
 #define FLOE_MOST_LIMITS 8      /* limits in a set, at the most */
 #define FLOE_LONGEST_SET 30     /* bytes of the longest set */
 #define FLOE_WORK_ENTRIES 8192  /* entries of 16 bits that floe_build works in */
 #define FLOE_LONGEST_TABLE 8199 /* bytes of the longest table */
 #define FLOE_MOST_GUARDS 16     /* guards in a row, at the most */
+#define FLOE_LONGEST_WINDOW 12  /* jobs of the longest window */
+
+/* Outcomes that a guard holds. A window that a later outcome completes reaches back no further. */
+#define FLOE_HELD (FLOE_LONGEST_WINDOW - 1)
+
+/* Bytes of the carry-over record of a guard and a set of set_len bytes, as a number of 64 bits whatever integer type
+ * set_len has, in #if too: a head of 5, the set, FLOE_HELD outcomes, and 9 for the count and the lost byte. Nothing
+ * overflows up to UINT64_MAX - FLOE_RECORD_SIZE(0). set_len is evaluated once. */
+#define FLOE_RECORD_SIZE(set_len) ((set_len) + UINT64_C(5) + FLOE_HELD + 9)
+#define FLOE_LONGEST_RECORD FLOE_RECORD_SIZE(FLOE_LONGEST_SET) /* bytes of the longest record, 55 */
 
 /* Bytes of the log of n outcomes, as a number of 64 bits whatever integer type n has, in #if too. For n from 0 to
  * 4,294,967,295, the most outcomes of a log; nothing overflows up to UINT64_MAX - 7. n is evaluated once. */
@@ -105,7 +119,8 @@ enum floe_log_answer {
 
 /* Why a call is refused, and what `at` says then (where nothing is said, 0). The numbers are tested in this order,
  * limits first to last and each for its kind, k and x, and the first that applies is given; but a call on a row tests
- * FLOE_REFUSED_JOB first, floe_judge tests 26 before 13, and floe_log_write tests 15, 13 and then 9. */
+ * FLOE_REFUSED_JOB first, floe_judge tests 26 before 13, floe_log_write tests 15, 13 and then 9, and floe_carry_read
+ * tests 18, 1 to 7, 13, 19, 10 to 12 and then 25. */
 enum floe_refusal {
     FLOE_ACCEPTED = 0,               /* the call was not refused */
     FLOE_REFUSED_SET_LENGTH = 1,     /* set: under 6 bytes, or its length field isn't the count of bytes after it */
@@ -116,19 +131,25 @@ enum floe_refusal {
     FLOE_REFUSED_LIMIT_K = 6,        /* a limit's k isn't one that its kind takes; at: its number, from 0 */
     FLOE_REFUSED_LIMIT_X = 7,        /* a limit's x isn't one that its kind takes; at: its number, from 0 */
     FLOE_REFUSED_WORK_LENGTH = 8,    /* the work area has fewer than 8192 entries */
-    FLOE_REFUSED_ROOM = 9,           /* the buffer is shorter than what must be written, a table, a set or a log; at:
-                                        the length needed, in bytes */
+    FLOE_REFUSED_ROOM = 9,           /* the buffer is shorter than what must be written, a table, a set, a log or a
+                                        record; at: the length needed, in bytes */
     FLOE_REFUSED_TABLE_LENGTH = 10,  /* table: under 7 bytes, or its length field isn't the count of bytes after it */
     FLOE_REFUSED_TABLE_VERSION = 11, /* the table's version isn't 1 */
     FLOE_REFUSED_STATES = 12,        /* the table's count of states n is 0 or above 2048, its length field isn't
                                         3 + 4 * n, a next state is n or more (FF FF after a miss excepted), or the
                                         guard's state is n or more */
-    FLOE_REFUSED_OUTCOME = 13,       /* an outcome is neither 0 nor 1; at: its place, from 0, and 0 in a tell */
+    FLOE_REFUSED_OUTCOME = 13,       /* an outcome is neither 0 nor 1; at: its place among the outcomes, from 0, and 0
+                                        in a tell */
     FLOE_REFUSED_JOB = 14,           /* the row has no guard of this job's number, from 0, or more than 16 guards */
     FLOE_REFUSED_LOG = 15,           /* log: under 9 bytes, or its length field isn't the count of bytes after it, its
                                         version isn't 1, or its length field isn't 5 and the bytes that its count of
                                         outcomes takes; or a pattern for a log has more than 4,294,967,295 outcomes */
     FLOE_REFUSED_UNUSED_BITS = 16,   /* the low bits of the log's last byte that no outcome takes aren't all zero */
+    FLOE_REFUSED_COUNT = 17,         /* the guard was told 18,446,744,073,709,551,615 outcomes, UINT64_MAX, already */
+    FLOE_REFUSED_RECORD = 18,        /* record: under FLOE_RECORD_SIZE(0) bytes, or its length field isn't the count of
+                                        bytes after it, or its version isn't 1 */
+    FLOE_REFUSED_LOST_BYTE = 19,     /* the lost byte of the record is neither 0 nor 1 */
+    FLOE_REFUSED_WALK = 25,          /* the outcomes of the record can't be walked on the table from state 0 */
     FLOE_REFUSED_PATTERN_LENGTH = 26 /* a pattern that is to be judged has more than 9,223,372,036,854,775,807 outcomes;
                                         no memory of an x86-64 machine holds so many */
 };
@@ -158,11 +179,24 @@ typedef struct { uint8_t kind, x, k; } floe_limit;
  * that was read has zeros there. */
 typedef struct { uint64_t count; floe_limit limits[FLOE_MOST_LIMITS]; } floe_set;
 
-/* A guard: where one job stands on its table, and whether its outcomes are lost. It belongs to the table that it was
- * started on, and no call can see which that was: on another table its state is taken for the one of that number there,
- * and refused only where there is none. To copy it is to copy the job's standing. The byte of lost is 0 or 1, as in
- * every C bool: a guard that nobody wrote, or whose bytes come from elsewhere, is the caller's to rule out. */
-typedef struct { uint16_t state; bool lost; } floe_guard;
+/* A guard. state: where one job stands on its table. lost: whether a miss was told in panic. outcomes: the last
+ * FLOE_HELD that it was told since its start, oldest first, true for a hit, with hits in the places of those that it
+ * wasn't told yet. count: how many it was told since its start.
+ *
+ * A guard with nothing told isn't lost, is in state 0, holds hits alone and has the count 0. floe_guard_new gives one,
+ * and so does floe_guard_start. All bytes zero are another guard, which holds misses: {0}, memset and calloc don't make
+ * one with nothing told. Asking and telling don't show that, but its record may be refused, or be read back in another
+ * state.
+ *
+ * A guard that is lost keeps the state and the outcomes that it had before the miss in panic. It goes on counting: that
+ * miss is counted, and so is every outcome that it is told later.
+ *
+ * It belongs to the table that it was started on, and no call can see which that was: on another table its state is
+ * taken for the one of that number there, and refused only where there is none. To copy it is to copy the job's
+ * standing. The bytes of lost and of outcomes are 0 or 1, as in every C bool: a guard that nobody wrote, or whose bytes
+ * come from elsewhere, is the caller's to rule out, and a guard that has to be stored is stored as a record. Some of
+ * its bytes hold nothing, so two guards are compared field by field, and not by memcmp. */
+typedef struct { uint16_t state; bool lost; bool outcomes[FLOE_HELD]; uint64_t count; } floe_guard;
 
 typedef struct { uint64_t refused, at; floe_set set; } floe_set_read;
 typedef struct { uint64_t refused, at, length; } floe_written;
@@ -205,9 +239,9 @@ FLOE_NODISCARD floe_written floe_write_set(floe_set set, uint8_t *bytes, size_t 
  * that doesn't keep the pattern up to that job. Both are 0 where nothing is lost.
  * first: where it is lost, where to look. With endless hits before and after the pattern up to that job, the earliest
  * window of that limit that fails begins with this job. The job at which the pattern is lost lies in this window, so
- * first is at most 11 less than job. The pattern begins with job 1; jobs 0, -1, -2 and so on, down to -10, are hits
- * that count as standing before it. first is 0 where nothing is lost; but a window may begin with job 0, so look at
- * refused, and at kept or job, before it.
+ * job - first is below FLOE_LONGEST_WINDOW. The pattern begins with job 1; jobs 0, -1, -2 and so on, down to -10, are
+ * hits that count as standing before it. first is 0 where nothing is lost; but a window may begin with job 0, so look
+ * at refused, and at kept or job, before it.
  *
  * Refuses by 1 to 7 for the set, then by 26 and then by 13 for the pattern: all of its outcomes are tested, even if it
  * is lost earlier.
@@ -256,9 +290,15 @@ FLOE_NODISCARD floe_built floe_build(const uint8_t *set, size_t set_len, uint16_
 FLOE_NODISCARD floe_checked floe_check_table(const uint8_t *table, size_t table_len);
 
 /*
+ * Gives a guard with nothing told: not lost, in state 0, hits alone held, count 0. No table is checked for it. A new
+ * row is filled with it. It refuses nothing.
+ */
+FLOE_NODISCARD floe_guard floe_guard_new(void);
+
+/*
  * Starts a guard on a table, which is checked as by floe_check_table.
  *
- * guard: a guard in state 0 that isn't lost, also on a refusal.
+ * guard: a guard with nothing told, as floe_guard_new gives it, also on a refusal.
  *
  * Refuses by 10 to 12: look at refused before the guard is used, since asking and telling don't check the whole table.
  */
@@ -277,31 +317,35 @@ FLOE_NODISCARD floe_asked floe_guard_ask(floe_guard guard, const uint8_t *table,
 /*
  * Tells a guard, after a job, its outcome: FLOE_HIT or FLOE_MISS.
  *
- * guard: the guard to go on with. A miss told in panic makes it lost; its state then stays, and it is lost until the
- * caller starts a new guard: no outcome brings it back. On a table that floe_build made of a set, eleven hits in a row
- * bring a guard that isn't lost back to what floe_guard_start gave.
+ * guard: the guard to go on with. Its count is one more. It is in the next state and holds the outcome as its newest,
+ * without its oldest. A miss told in panic makes it lost instead: its state and its outcomes then stay, whatever it is
+ * told, and it is lost until the caller starts a new guard: no outcome brings it back. On a table that floe_build made
+ * of a set, FLOE_HELD hits in a row bring a guard that isn't lost back to state 0 with hits alone held; its count goes
+ * on.
  *
- * Refuses by 10 to 12, tested as by floe_guard_ask, then by 13 (at is 0), whether or not the guard is lost. guard is
- * the one handed in then, and no outcome was told: look at refused.
+ * Refuses by 10 to 12, tested as by floe_guard_ask, then by 13 (at is 0), then by 17 where the count is UINT64_MAX,
+ * each whether or not the guard is lost. guard is the one handed in then, and no outcome was told: look at refused.
  */
 FLOE_NODISCARD floe_told floe_guard_tell(floe_guard guard, const uint8_t *table, size_t table_len, uint8_t outcome);
 
 /*
  * A row: guards for up to FLOE_MOST_GUARDS jobs on one table, in an array of the caller's that is lent to each call. A
- * new row holds guards in state 0 that aren't lost, which is all bytes zero:
+ * new row holds guards with nothing told, and an initializer can't say that:
  *
- *     floe_guard row[FLOE_MOST_GUARDS] = {{0, false}};
+ *     floe_guard row[FLOE_MOST_GUARDS];
+ *     for (size_t job = 0; job < FLOE_MOST_GUARDS; job++) row[job] = floe_guard_new();
  *
  * A row has to be written so, or copied from one, before any call, floe_row_start too, which keeps the old guard where
  * it refuses. Then start each of its jobs, which checks the whole table; without that a guard of a new row can be asked
- * and told as well. A call concerns the guard of one job, numbered from 0 (in a row a job is one of several that run
- * side by side; in a pattern it is one run): the guards of the other jobs are never written, and the answer doesn't
- * depend on them.
+ * and told as well. A guard of a row is a guard like any other: row[job] goes to floe_carry_write, and what
+ * floe_carry_read gives into row[job]. A call concerns the guard of one job, numbered from 0 (in a row a job is one of
+ * several that run side by side; in a pattern it is one run): the guards of the other jobs are never written, and the
+ * answer doesn't depend on them.
  */
 
 /*
- * Starts the guard of one job, as floe_guard_start does: row[job] is then in state 0 and not lost, whatever it was. No
- * other call on a row brings a lost guard back.
+ * Starts the guard of one job, as floe_guard_start does: row[job] is then a guard with nothing told, whatever it was.
+ * No other call on a row brings a lost guard back.
  *
  * Refuses by 14, then by 10 to 12; row[job] is then the guard that it was.
  */
@@ -322,11 +366,73 @@ FLOE_NODISCARD floe_row_asked floe_row_ask(const floe_guard *row, size_t count, 
  * Tells the guard of one job, after that job, its outcome, as floe_guard_tell does: row[job] becomes the guard to go on
  * with.
  *
- * Refuses by 14, then by 10 to 12, then by 13 (at is 0), whether or not the guard is lost. The row is then as it was,
- * and no outcome was told: look at refused.
+ * Refuses by 14, then by 10 to 12, then by 13 (at is 0), then by 17, whether or not the guard is lost. The row is then
+ * as it was, and no outcome was told: look at refused.
  */
 FLOE_NODISCARD floe_done floe_row_tell(floe_guard *row, size_t count, size_t job,
                                        const uint8_t *table, size_t table_len, uint8_t outcome);
+
+/*
+ * A carry-over record, in short a record: a guard as it is stored while it is switched off, beside the set whose table
+ * it walks. Its bytes are four, big-endian, that count the bytes after them; the version, 1; the bytes of the set, with
+ * their own head; the FLOE_HELD outcomes that the guard holds, one a byte, oldest first; eight for the count; and one
+ * that is 1 if the guard is lost, else 0. The set's bytes are all that lie between the version, which is byte 4, and
+ * the last FLOE_HELD + 9. With the set AnyHit(1,2) a guard that was told one miss has
+ *
+ *     00 00 00 1E 01  00 00 00 05 01 01 00 01 02  01 01 01 01 01 01 01 01 01 01 00  00 00 00 00 00 00 00 01  00
+ *
+ * The state isn't in it: reading walks the outcomes on a table from state 0. Write a record before the power goes, or
+ * after each tell, and when it is back read it instead of starting a guard. To write that of a guard and the bytes of
+ * its set, and to read it on the table that floe_build made of these bytes:
+ *
+ *     uint8_t record[FLOE_LONGEST_RECORD];
+ *     floe_written stored = floe_carry_write(guard, limits, limits_len, record, sizeof record);
+ *     floe_started again = floe_carry_read(record, stored.length, table, table_len);
+ *
+ * again.guard is then guard, field for field, if guard was started and told on that table: it answers every ask and
+ * tell as one that was never switched off, through any number of changes. A refused writing needs no test of its own
+ * here: its length is 0, and reading refuses a record of no bytes.
+ *
+ * Which table. A record doesn't say of which table it is, and reading doesn't ask whether the table was made of the
+ * record's set: on another table it gives the guard in the state where the walk ends there, or refuses by 25. So keep
+ * the set and its table together and read only a record that carries this set: its length is
+ * FLOE_RECORD_SIZE(limits_len), and memcmp(record + 5, limits, limits_len) is 0. Or build the table from the set that
+ * the record carries: its bytes are those from record + 5 on, FLOE_RECORD_SIZE(0) fewer than the record has, and a
+ * record that hasn't even so many carries none.
+ *
+ * What can't be noticed. A record that was cut short is refused by 18. But it has no check sum, and a record that is
+ * written over the old one and torn in the middle has bytes of both, which may pass every test and be the guard of
+ * nobody. So write it to a file beside the old one, sync that file, rename it over the old one and sync the folder:
+ * after a cut of the power the old record is there, or the new one, and nothing between. The old one lacks what was
+ * told since. Bytes that the storage changes by itself are noticed only where they break a rule of the layout.
+ */
+
+/*
+ * Writes the record of a guard and the bytes of a set. record is a buffer here: FLOE_RECORD_SIZE(set_len) bytes are
+ * room enough, and FLOE_LONGEST_RECORD for every set; bytes past those that are written are left alone.
+ *
+ * length: the length of the record, FLOE_RECORD_SIZE(set_len); 0 on a refusal.
+ *
+ * Refuses by 1 to 7 for the set, then by 9 with the length that is needed in at, and then writes nothing. The guard is
+ * never refused.
+ */
+FLOE_NODISCARD floe_written floe_carry_write(floe_guard guard, const uint8_t *set, size_t set_len,
+                                             uint8_t *record, size_t record_len);
+
+/*
+ * Reads a record back on a table, all of which is checked, as by floe_guard_start. record_len and table_len are their
+ * own lengths, not those of longer buffers that hold them.
+ *
+ * guard: the guard with the record's outcomes and count, lost as it says, in the state where the walk of the outcomes
+ * from state 0 ends; on a refusal a guard with nothing told. So look at refused first: that guard looks like one that
+ * was just started.
+ *
+ * Refuses by 18; then by 1 to 7 for the set's bytes in the record; then by 13 for its outcomes, with the place, from 0,
+ * among these FLOE_HELD in at; then by 19; then by 10 to 12 for the table; then by 25, whether or not the record is of
+ * a lost guard. A count, outcomes and a lost byte that no guard has together aren't refused for that.
+ */
+FLOE_NODISCARD floe_started floe_carry_read(const uint8_t *record, size_t record_len,
+                                            const uint8_t *table, size_t table_len);
 
 /*
  * A night log: the outcomes of a visit as they are stored. Its bytes are four, big-endian, that count the bytes after

@@ -2,6 +2,7 @@
 //! without waste either. None of them keeps a running count or a history: every window is looked at afresh.
 
 pub mod builder;
+pub mod carry;
 pub mod compare;
 pub mod guard;
 pub mod log;

@@ -37,7 +37,11 @@ static void print_bytes(const uint8_t *bytes, size_t length) {
 }
 
 static void print_guard(const char *before, floe_guard guard) {
-    printf("%sGuard { state: %u, lost: %s }", before, guard.state, guard.lost ? "true" : "false");
+    printf("%sGuard { state: %u, lost: %s", before, guard.state, guard.lost ? "true" : "false");
+    for (size_t i = 0; i < FLOE_HELD; i++)
+        printf("%s%s", i == 0 ? ", outcomes: [" : ", ", guard.outcomes[i] ? "true" : "false");
+    field("], count: ", guard.count);
+    printf(" }");
 }
 
 static void print_row(const floe_guard *row, size_t count) {
@@ -136,6 +140,52 @@ static void print_read(floe_log_read read) {
     field(", answer: ", read.answer);
     field(", place: ", read.place);
     end();
+}
+
+/* Records: written into a block of the length that the writer asks for, read back, cut short and spoilt. The guard is lost
+ * and was told all that it can count but one. */
+static void records(floe_guard guard, const uint8_t *set, size_t set_len, const uint8_t *faulty, size_t faulty_len,
+                    const uint8_t *table, size_t table_len, uint8_t *nothing) {
+    floe_written needed = floe_carry_write(guard, set, set_len, nothing, 0);
+    print_written(needed);
+    size_t length = needed.at;
+    uint8_t *record = (uint8_t *)block(length);
+    guard.count = UINT64_MAX - 1;
+    print_written(floe_carry_write(guard, set, set_len, record, length));
+    print_bytes(record, length);
+    puts("");
+    print_written(floe_carry_write(guard, set, set_len, record, length - 1));
+    print_written(floe_carry_write(guard, faulty, faulty_len, nothing, 0));
+    print_bytes(record, length);
+    puts("");
+
+    floe_started read = floe_carry_read(record, length, table, table_len);
+    print_started(read);
+    floe_told told = floe_guard_tell(read.guard, table, table_len, 1);
+    print_told(told);
+    print_told(floe_guard_tell(told.guard, table, table_len, 1));
+    print_told(floe_guard_tell(told.guard, table, table_len, 2));
+    print_done(floe_row_tell(&told.guard, 1, 0, table, table_len, 0));
+    print_row(&told.guard, 1);
+
+    for (size_t left = 0; left < length; left++) {
+        uint8_t *cut = lent(record, left);
+        print_started(floe_carry_read(cut, left, table, table_len));
+        free(cut);
+    }
+    print_started(floe_carry_read(record, length, table, table_len - 1));
+    size_t outcomes = length - FLOE_HELD - 9;
+    const size_t places[] = {4, 9, 11, outcomes, length - 1};
+    for (size_t i = 0; i < sizeof places / sizeof *places; i++) {
+        uint8_t *spoilt = lent(record, length);
+        spoilt[places[i]] = 5;
+        print_started(floe_carry_read(spoilt, length, table, table_len));
+        print_started(floe_carry_read(spoilt, length, nothing, 0));
+        free(spoilt);
+    }
+    memset(record + outcomes, 0, FLOE_HELD);
+    print_started(floe_carry_read(record, length, table, table_len));
+    free(record);
 }
 
 /* AnyHit(12,12): the window of a pattern that it loses early begins before the pattern. */
@@ -272,9 +322,12 @@ int main(void) {
     }
     print_asked(floe_guard_ask(guard, table, length));
 
+    records(guard, set, sizeof set_bytes, faulty, sizeof faulty_bytes, table, length, nothing);
+
     const size_t count = 3;
-    floe_guard *row = (floe_guard *)calloc(count, sizeof *row);
-    if (row == NULL) exit(1);
+    floe_guard *row = (floe_guard *)block(count * sizeof *row);
+    for (size_t i = 0; i < count; i++) row[i] = floe_guard_new();
+    print_row(row, count);
     for (int misses = 0; misses < 3; misses++) {
         print_row_asked(floe_row_ask(row, count, 1, table, length));
         print_row_asked(floe_row_ask(row, count, 1, faulty_table, length));

@@ -17,6 +17,8 @@ int main(void) {
     RECORD(floe_guard);
     FIELD(floe_guard, state);
     FIELD(floe_guard, lost);
+    FIELD(floe_guard, outcomes);
+    FIELD(floe_guard, count);
     RECORD(floe_set_read);
     FIELD(floe_set_read, refused);
     FIELD(floe_set_read, at);

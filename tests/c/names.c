@@ -21,6 +21,10 @@ static void fail(int line, const char *fact) {
 #error "FLOE_LOG_SIZE is a number that the preprocessor can compare"
 #endif
 
+#if FLOE_RECORD_SIZE(FLOE_LONGEST_SET) != FLOE_LONGEST_RECORD || FLOE_HELD != FLOE_LONGEST_WINDOW - 1
+#error "FLOE_RECORD_SIZE is a number that the preprocessor can compare"
+#endif
+
 static uint16_t work[FLOE_WORK_ENTRIES];
 static uint8_t table[FLOE_LONGEST_TABLE + 4];
 
@@ -102,7 +106,8 @@ static void sizes(void) {
     HOLDS(floe_check_table(table, FLOE_LONGEST_TABLE).states == 2048);
     HOLDS(floe_check_table(table, table_of(2049)).refused == FLOE_REFUSED_STATES);
 
-    floe_guard row[FLOE_MOST_GUARDS + 1] = {{0, false}};
+    floe_guard row[FLOE_MOST_GUARDS + 1];
+    for (size_t i = 0; i <= FLOE_MOST_GUARDS; i++) row[i] = floe_guard_new();
     size_t length = table_of(1);
     HOLDS(floe_row_start(row, FLOE_MOST_GUARDS, FLOE_MOST_GUARDS - 1, table, length).refused == FLOE_ACCEPTED);
     HOLDS(floe_row_start(row, FLOE_MOST_GUARDS, FLOE_MOST_GUARDS, table, length).refused == FLOE_REFUSED_JOB);
@@ -149,10 +154,55 @@ static void logs(void) {
     HOLDS(floe_log_open(log, length).refused == FLOE_REFUSED_UNUSED_BITS);
 }
 
+/* FLOE_HELD, FLOE_LONGEST_WINDOW and FLOE_RECORD_SIZE, with a length of any type and looked at once, and what a record is
+ * refused by. The guard is in panic by what it holds in the first place: one outcome fewer, and it would not be. */
+static void records(void) {
+    HOLDS(refused(limit(FLOE_ANY_HIT, 1, FLOE_LONGEST_WINDOW)) == FLOE_ACCEPTED);
+    HOLDS(refused(limit(FLOE_ANY_HIT, 1, FLOE_LONGEST_WINDOW + 1)) == FLOE_REFUSED_LIMIT_K);
+    const uint8_t set[] = {0, 0, 0, 5, 1, 1, FLOE_ANY_HIT, 1, FLOE_LONGEST_WINDOW};
+    size_t length = floe_build(set, sizeof set, work, FLOE_WORK_ENTRIES, table, sizeof table).length;
+    floe_guard guard = floe_guard_new();
+    HOLDS(sizeof guard.outcomes == FLOE_HELD);
+    for (size_t i = 0; i < FLOE_HELD; i++) {
+        HOLDS(guard.outcomes[0]);
+        HOLDS(floe_guard_ask(guard, table, length).answer == FLOE_NORMAL);
+        guard = floe_guard_tell(guard, table, length, FLOE_MISS).guard;
+        HOLDS(!guard.outcomes[FLOE_HELD - 1] && guard.count == i + 1);
+    }
+    HOLDS(!guard.outcomes[0] && floe_guard_ask(guard, table, length).answer == FLOE_PANIC);
+
+    uint8_t record[FLOE_LONGEST_RECORD];
+    const uint64_t record_len = FLOE_RECORD_SIZE(sizeof set);
+    HOLDS(floe_carry_write(guard, set, sizeof set, record, record_len).length == record_len);
+    HOLDS(floe_carry_write(guard, set, sizeof set, record, record_len - 1).refused == FLOE_REFUSED_ROOM);
+    HOLDS(floe_carry_write(guard, set, sizeof set, record, 0).at == record_len);
+    HOLDS(floe_carry_read(record, record_len, table, length).guard.state == guard.state);
+    HOLDS(memcmp(record + 5, set, sizeof set) == 0);
+    int once = 8;
+    HOLDS(FLOE_RECORD_SIZE(once++) == 8 + FLOE_RECORD_SIZE(0) && once == 9);
+    HOLDS(FLOE_RECORD_SIZE((uint8_t)255) == 255 + FLOE_RECORD_SIZE(0) && FLOE_RECORD_SIZE(1 | 8) == FLOE_RECORD_SIZE(9));
+    HOLDS(FLOE_RECORD_SIZE(UINT32_MAX) - FLOE_RECORD_SIZE(0) == UINT32_MAX);
+
+    HOLDS(floe_carry_read(record, FLOE_RECORD_SIZE(0) - 1, table, length).refused == FLOE_REFUSED_RECORD);
+    HOLDS(floe_carry_read(record, record_len - 1, table, length).refused == FLOE_REFUSED_RECORD);
+    const uint8_t no_set[FLOE_RECORD_SIZE(0)] = {0, 0, 0, FLOE_RECORD_SIZE(0) - 4, 1};
+    HOLDS(floe_carry_read(no_set, sizeof no_set, table, length).refused == FLOE_REFUSED_SET_LENGTH);
+    record[record_len - 1] = 2;
+    HOLDS(floe_carry_read(record, record_len, table, length).refused == FLOE_REFUSED_LOST_BYTE);
+    record[5 + sizeof set + FLOE_HELD - 1] = 2;
+    HOLDS(floe_carry_read(record, record_len, table, length).refused == FLOE_REFUSED_OUTCOME);
+    HOLDS(floe_carry_read(record, record_len, table, length).at == FLOE_HELD - 1);
+    record[5 + sizeof set + FLOE_HELD - 1] = FLOE_MISS;
+    record[record_len - 1] = 1;
+    const uint8_t one_of_two[] = {0, 0, 0, 11, 1, 0, 2, 0, 1, 0, 0, 0xFF, 0xFF, 0, 0};
+    HOLDS(floe_carry_read(record, record_len, one_of_two, sizeof one_of_two).refused == FLOE_REFUSED_WALK);
+    HOLDS(floe_carry_read(record, record_len, table, length).guard.lost);
+}
+
 static void refusals(void) {
     const uint8_t version_2[] = {0, 0, 0, 5, 2, 1, FLOE_ANY_HIT, 1, 2}, two_limits[] = {0, 0, 0, 5, 1, 2, 0, 1, 2};
     const uint8_t none[] = {0, 0, 0, 2, 1, 0}, one_of_two[] = {0, 0, 0, 5, 1, 1, FLOE_ANY_HIT, 1, 2}, no_outcome[] = {2};
-    floe_guard guard = {0, false};
+    floe_guard guard = floe_guard_new();
     HOLDS(floe_read_set(one_of_two, sizeof one_of_two).refused == FLOE_ACCEPTED);
     HOLDS(floe_read_set(one_of_two, 8).refused == FLOE_REFUSED_SET_LENGTH);
     HOLDS(floe_read_set(version_2, sizeof version_2).refused == FLOE_REFUSED_SET_VERSION);
@@ -169,6 +219,13 @@ static void refusals(void) {
     HOLDS(floe_check_table(table, length - 1).refused == FLOE_REFUSED_TABLE_LENGTH);
     HOLDS(floe_guard_tell(guard, table, length, 2).refused == FLOE_REFUSED_OUTCOME);
     HOLDS(floe_judge(one_of_two, sizeof one_of_two, no_outcome, 1).refused == FLOE_REFUSED_OUTCOME);
+    guard.count = UINT64_MAX;
+    HOLDS(floe_guard_tell(guard, table, length, FLOE_HIT).refused == FLOE_REFUSED_COUNT);
+    HOLDS(floe_guard_tell(guard, table, length, 2).refused == FLOE_REFUSED_OUTCOME);
+    guard.lost = true;
+    HOLDS(floe_guard_tell(guard, table, length, FLOE_HIT).refused == FLOE_REFUSED_COUNT);
+    guard.count--;
+    HOLDS(floe_guard_tell(guard, table, length, FLOE_HIT).guard.count == UINT64_MAX);
     table[4] = 2;
     HOLDS(floe_check_table(table, length).refused == FLOE_REFUSED_TABLE_VERSION);
 }
@@ -179,6 +236,11 @@ int main(void) {
     SAY(FLOE_WORK_ENTRIES);
     SAY(FLOE_LONGEST_TABLE);
     SAY(FLOE_MOST_GUARDS);
+    SAY(FLOE_LONGEST_WINDOW);
+    SAY(FLOE_HELD);
+    SAY(FLOE_RECORD_SIZE(0));
+    SAY(FLOE_RECORD_SIZE(9));
+    SAY(FLOE_LONGEST_RECORD);
     SAY(FLOE_MISS);
     SAY(FLOE_HIT);
     SAY(FLOE_LOG_SIZE(0));
@@ -189,6 +251,7 @@ int main(void) {
     sizes();
     answers();
     logs();
+    records();
     refusals();
     puts("every name is as the library has it");
     return 0;

@@ -25,6 +25,8 @@ static const uint8_t pattern[] = {0, 0, 1, 0, 1, 1, 0, 0, 1, 0, 1, 1, 1, 1, 0, 1
 static const uint8_t lost[] = {0, 0, 1, 0, 1, 1, 0, 0, 1, 0, 1, 1, 1, 1, 0, 1, 0, 1, 1, 0, 0, 0, 1, 0, 0, 0};
 static floe_guard row[FLOE_MOST_GUARDS], guard;
 static uint8_t night[FLOE_LOG_SIZE(sizeof pattern)], spare[FLOE_LOG_SIZE(sizeof pattern)];
+static uint8_t record[FLOE_LONGEST_RECORD], unwalked[FLOE_LONGEST_RECORD], spare_record[FLOE_LONGEST_RECORD];
+static size_t record_len;
 static uint8_t lost_night[FLOE_LOG_SIZE(sizeof lost)];
 
 /* Each call of a function is one more of its name; answers are used, so that the calls stay. */
@@ -45,6 +47,7 @@ CALL(floe_build, 0, floe_build(set, set_len, work, FLOE_WORK_ENTRIES, table, siz
 CALL(floe_build, 1, floe_build(other, sizeof other, work, FLOE_WORK_ENTRIES, table, 0))
 CALL(floe_check_table, 0, floe_check_table(table, table_len))
 CALL(floe_check_table, 1, floe_check_table(table, table_len - 1))
+static void floe_guard_new_0(void) { used_up = floe_guard_new().count; }
 CALL(floe_guard_start, 0, floe_guard_start(table, table_len))
 CALL(floe_guard_start, 1, floe_guard_start(table, table_len - 1))
 CALL(floe_guard_ask, 0, floe_guard_ask(guard, table, table_len))
@@ -57,6 +60,10 @@ CALL(floe_row_ask, 0, floe_row_ask(row, FLOE_MOST_GUARDS, 3, table, table_len))
 CALL(floe_row_ask, 1, floe_row_ask(row, FLOE_MOST_GUARDS, 16, table, table_len))
 CALL(floe_row_tell, 0, floe_row_tell(row, FLOE_MOST_GUARDS, 3, table, table_len, FLOE_MISS))
 CALL(floe_row_tell, 1, floe_row_tell(row, FLOE_MOST_GUARDS, 3, table, table_len, 2))
+CALL(floe_carry_write, 0, floe_carry_write(guard, set, set_len, spare_record, sizeof spare_record))
+CALL(floe_carry_write, 1, floe_carry_write(guard, set, set_len, spare_record, 0))
+CALL(floe_carry_read, 0, floe_carry_read(record, record_len, table, table_len))
+CALL(floe_carry_read, 1, floe_carry_read(unwalked, record_len, table, table_len))
 CALL(floe_log_write, 0, floe_log_write(pattern, sizeof pattern, spare, sizeof spare))
 CALL(floe_log_write, 1, floe_log_write(pattern, sizeof pattern, spare, 0))
 CALL(floe_log_open, 0, floe_log_open(night, sizeof night))
@@ -100,6 +107,13 @@ int main(void) {
     table_len = floe_build(set, set_len, work, FLOE_WORK_ENTRIES, table, sizeof table).length;
     size_t night_len = floe_log_write(pattern, sizeof pattern, night, sizeof night).length;
     size_t lost_len = floe_log_write(lost, sizeof lost, lost_night, sizeof lost_night).length;
+    guard = floe_guard_new();
+    for (size_t i = 0; i < FLOE_MOST_GUARDS; i++) row[i] = guard;
+    for (size_t i = 0; i < sizeof pattern; i++) guard = floe_guard_tell(guard, table, table_len, pattern[i]).guard;
+    record_len = floe_carry_write(guard, set, set_len, record, sizeof record).length;
+    if (floe_carry_read(record, record_len, table, table_len).refused != FLOE_ACCEPTED) return 1;
+    for (size_t i = 0; i < record_len; i++) unwalked[i] = i < 5 + set_len || i >= 5 + set_len + FLOE_HELD ? record[i] : 0;
+    if (floe_carry_read(unwalked, record_len, table, table_len).refused != FLOE_REFUSED_WALK) return 1;
     if (table_len == 0 || night_len != sizeof night || lost_len != sizeof lost_night) return 1;
     if (floe_judge(set, set_len, pattern, sizeof pattern).kept != 1) return 1;
     floe_verdict verdict = floe_judge(set, set_len, lost, sizeof lost);
@@ -110,12 +124,15 @@ int main(void) {
     SAY(floe_compare);
     SAY(floe_build);
     SAY(floe_check_table);
+    say("floe_guard_new", used(floe_guard_new_0));
     SAY(floe_guard_start);
     SAY(floe_guard_ask);
     SAY(floe_guard_tell);
     SAY(floe_row_start);
     SAY(floe_row_ask);
     SAY(floe_row_tell);
+    SAY(floe_carry_write);
+    SAY(floe_carry_read);
     SAY(floe_log_write);
     SAY(floe_log_open);
     SAY(floe_log_next);

@@ -1,6 +1,8 @@
-//! Bytes of a set, a table or a log with faults in them, often several at once.
+//! Bytes of a set, a table, a log or a record with faults in them, often several at once.
 
 use crate::draw::Draw;
+use crate::reference::carry::{record, HEAD, TAIL};
+use crate::reference::guard::HELD;
 use crate::reference::{night_log, sets};
 
 /// Values next to a bound of the rules, and those that a wrong width or sign would confuse.
@@ -139,4 +141,39 @@ pub fn spoilt_log(draw: &mut Draw) -> Vec<u8> {
     let mut log = night_log::log(&draw.pattern(jobs, 2));
     damage(draw, &mut log);
     log
+}
+
+/// A record in which 13, 19, a fault of the set and each of the three faults of 18 is present by its own chance.
+pub fn faulty_record(draw: &mut Draw) -> Vec<u8> {
+    let set = if draw.one_in(4) { faulty_set(draw) } else { sets::bytes(&draw.set()) };
+    let mut bytes = record(draw.guard(1), &set);
+    let outcomes = bytes.len() - TAIL;
+    while draw.one_in(4) {
+        bytes[outcomes + draw.below(HELD)] = draw.of(&[2, 3, 128, 255]);
+    }
+    if draw.one_in(5) {
+        *bytes.last_mut().expect("a record has a tail") = draw.of(&[2, 3, 128, 255]);
+    }
+    if draw.one_in(8) {
+        bytes[4] = draw.of(&[0, 2, 129]);
+    }
+    if draw.one_in(8) {
+        let length = draw.of(&[4, HEAD + TAIL - 1, HEAD + TAIL, bytes.len() - 1, bytes.len() + 1]);
+        bytes.resize(length, 0);
+        mend_length(&mut bytes);
+    }
+    if draw.one_in(12) {
+        bytes[draw.below(4)] ^= 1 << draw.below(8);
+    }
+    bytes
+}
+
+/// Bytes of a record that are mostly refused, by faults of either kind.
+pub fn spoilt_record(draw: &mut Draw) -> Vec<u8> {
+    if draw.one_in(2) {
+        return faulty_record(draw);
+    }
+    let mut bytes = record(draw.guard(1), &sets::bytes(&draw.set()));
+    damage(draw, &mut bytes);
+    bytes
 }

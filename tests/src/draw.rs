@@ -2,6 +2,7 @@
 
 use std::env;
 
+use crate::reference::guard::{Guard, HELD};
 use crate::reference::limits::Limit;
 use crate::reference::{HIT, MISS};
 
@@ -80,6 +81,26 @@ impl Draw {
             }
         }
         near
+    }
+
+    /// A guard with any state below `states`, and often a state of no table; any outcomes, and any count.
+    pub fn guard(&mut self, states: usize) -> Guard {
+        let within = self.below(states) as u16;
+        let rarity = self.of(&[1, 2, 5, 100]);
+        Guard {
+            state: if self.one_in(8) { self.of(&[6, 7, 255, 256, 2047, 65_535]) } else { within },
+            lost: self.one_in(3),
+            outcomes: [(); HELD].map(|()| !self.one_in(rarity)),
+            count: self.count(),
+        }
+    }
+
+    /// A count of outcomes told, often one at the edge of a width.
+    pub fn count(&mut self) -> u64 {
+        let any = self.number() << 16 | self.number();
+        let width = self.of(&[8, 16, 24, 31, 32, 48, 63]);
+        let edge = 1 << width;
+        self.of(&[0, 1, 11, any, any, edge - 1, edge, edge + 1, u64::MAX - 1, u64::MAX])
     }
 
     /// Outcomes of which one in `rarity` is a miss.

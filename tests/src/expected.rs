@@ -1,12 +1,12 @@
 //! The record in which an answer of the reference has to arrive.
 //!
 //! "a refused reading fills it with a set of count 0 and zeros, a refused comparison with a pattern of length 0, and a
-//! refused start with a guard that isn't lost, in state 0, told nothing"; what an answer doesn't use is zero too, but for
-//! the answer of a refused ask or of a reader's refused call, which is 3.
+//! refused start or reading back with a guard with nothing told"; what an answer doesn't use is zero too, but for the
+//! answer of a refused ask or of a reader's refused call, which is 3.
 
 use crate::floe;
 use crate::reference::compare::{Between, RefusedSet};
-use crate::reference::guard::{Answer, Guard};
+use crate::reference::guard::{Answer, Guard, FRESH};
 use crate::reference::limits::Limit;
 use crate::reference::night_log::Read;
 use crate::reference::verdict::Lost;
@@ -96,7 +96,8 @@ pub fn checked(answer: Result<usize, Refusal>) -> floe::Checked {
 }
 
 pub fn guard(guard: Guard) -> floe::Guard {
-    floe::Guard { state: guard.state, lost: guard.lost }
+    let Guard { state, lost, outcomes, count } = guard;
+    floe::Guard { state, lost, outcomes, count }
 }
 
 pub fn done(answer: Result<(), Refusal>) -> floe::Done {
@@ -106,7 +107,7 @@ pub fn done(answer: Result<(), Refusal>) -> floe::Done {
 
 pub fn started(answer: Result<Guard, Refusal>) -> floe::Started {
     let floe::Done { refused, at } = done(answer.map(drop));
-    floe::Started { refused, at, guard: answer.map(guard).unwrap_or_default() }
+    floe::Started { refused, at, guard: guard(answer.unwrap_or(FRESH)) }
 }
 
 /// "A refused ask or tell gives back the guard that came": `before`.

@@ -27,11 +27,15 @@ pub mod table {
 }
 
 pub mod guard {
-    pub use floelinnet::raw::{guard_ask as ask, guard_start as start, guard_tell as tell};
+    pub use floelinnet::raw::{guard_ask as ask, guard_new as new, guard_start as start, guard_tell as tell};
 }
 
 pub mod row {
     pub use floelinnet::raw::{row_ask as ask, row_start as start, row_tell as tell};
+}
+
+pub mod carry {
+    pub use floelinnet::raw::{carry_read as read, carry_write as write};
 }
 
 pub mod log {

@@ -2,6 +2,7 @@
 //!
 //! A pattern is a slice of outcomes, oldest first: 1 a hit, 0 a miss. The rules are quoted where they are used.
 
+pub mod carry;
 pub mod compare;
 pub mod guard;
 pub mod limits;

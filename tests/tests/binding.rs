@@ -1,8 +1,8 @@
 //! The safe face in bindings/rust against the archive's plain records: each of its answers, put back into a record, is
 //! the record that the same call gives.
 
-use floelinnet::{log_size, Comparison, Guard, LogReader, Refused, Verdict};
-use floelinnet_tests::damage::{damage, drawn_table, spoilt_log, spoilt_set};
+use floelinnet::{log_size, record_size, Comparison, Guard, LogReader, Refused, Verdict};
+use floelinnet_tests::damage::{damage, drawn_table, spoilt_log, spoilt_record, spoilt_set};
 use floelinnet_tests::draw::{cases, Draw};
 use floelinnet_tests::reference::compare::RefusedSet;
 use floelinnet_tests::reference::limits::Limit;
@@ -24,7 +24,8 @@ fn limit(limit: floelinnet::Limit) -> Limit {
 }
 
 fn standing(guard: Guard) -> guard::Guard {
-    guard::Guard { state: guard.state, lost: guard.lost }
+    let Guard { state, lost, outcomes, count } = guard;
+    guard::Guard { state, lost, outcomes, count }
 }
 
 fn lost(verdict: Verdict) -> Option<Lost> {
@@ -146,7 +147,7 @@ fn builds() {
 #[test]
 fn tables_guards_and_rows() {
     let mut draw = Draw::new(83);
-    let mut seen = [0; 15];
+    let mut seen = [0; 18];
     for _ in 0..cases(50_000) {
         let mut table = drawn_table(&mut draw, 4);
         if draw.one_in(3) {
@@ -158,8 +159,7 @@ fn tables_guards_and_rows() {
         assert_eq!(expected::started(answer), floe::guard::start(&table), "{table:02X?}");
 
         let count = draw.of(&[1, 3, 16, 17]);
-        let mut row: Vec<Guard> =
-            (0..count).map(|_| Guard { state: draw.below(5) as u16, lost: draw.one_in(4) }).collect();
+        let mut row: Vec<Guard> = (0..count).map(|_| expected::guard(draw.guard(5))).collect();
         let mut plain_row = row.clone();
         let job = draw.below(count + 1);
         let outcome = draw.of(&[0, 0, 1, 1, 2]);
@@ -182,7 +182,38 @@ fn tables_guards_and_rows() {
         let found = floe::row::start(&mut plain_row, job, &table);
         assert_eq!((expected::done(answer), &row), (found, &plain_row), "{shown}");
     }
-    assert!([0, 10, 11, 12, 13, 14].iter().all(|&number| seen[number] > 100), "{seen:?}");
+    assert!([0, 10, 11, 12, 13, 14, 17].iter().all(|&number| seen[number] > 100), "{seen:?}");
+}
+
+#[test]
+fn records() {
+    assert_eq!(Guard::default(), floe::guard::new());
+    let mut draw = Draw::new(86);
+    let mut seen = [0; 26];
+    for _ in 0..cases(20_000) {
+        let guard: Guard = expected::guard(draw.guard(5));
+        let set = drawn_set(&mut draw);
+        let needed = record_size(set.len());
+        let mut record = vec![7; draw.of(&[0, needed - 1, needed, needed, needed + 1])];
+        let mut plain_record = record.clone();
+        let answer = guard.write_record(&set, &mut record).map(|length| record[..length].to_vec());
+        let found = floe::carry::write(guard, &set, &mut plain_record);
+        assert_eq!(expected::written(&answer.map_err(refusal)), found, "{guard:?} with {set:02X?}");
+        assert_eq!(record, plain_record, "{guard:?} with {set:02X?}");
+        seen[found.refused as usize] += 1;
+
+        let record = if draw.one_in(2) { spoilt_record(&mut draw) } else { record };
+        let mut table = drawn_table(&mut draw, 4);
+        if draw.one_in(4) {
+            damage(&mut draw, &mut table);
+        }
+        let answer = Guard::read_record(&record, &table).map(standing).map_err(refusal);
+        let found = floe::carry::read(&record, &table);
+        assert_eq!(expected::started(answer), found, "{record:02X?} on {table:02X?}");
+        seen[found.refused as usize] += 1;
+    }
+    let numbers = [0, 1, 2, 3, 4, 5, 6, 7, 9, 10, 11, 12, 13, 18, 19, 25];
+    assert!(numbers.iter().all(|&number| seen[number] > 50), "{seen:?}");
 }
 
 /// A reader goes on where the plain call says, to the end and past it, and says how many outcomes are left.

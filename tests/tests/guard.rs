@@ -1,9 +1,9 @@
-//! floe_guard_start, floe_guard_ask and floe_guard_tell against the reference.
+//! floe_guard_new, floe_guard_start, floe_guard_ask and floe_guard_tell against the reference.
 
 use floelinnet_tests::damage::{damage, drawn_table};
 use floelinnet_tests::draw::{cases, Draw};
 use floelinnet_tests::pages::pages;
-use floelinnet_tests::reference::guard::{ask, start, tell, Answer, Guard, FRESH};
+use floelinnet_tests::reference::guard::{ask, start, tell, Answer, Guard, Story, FRESH, HELD};
 use floelinnet_tests::reference::limits::allowed_limits;
 use floelinnet_tests::reference::table;
 use floelinnet_tests::{expected, floe};
@@ -28,15 +28,14 @@ fn agree_on_guard(guard: Guard, table: &[u8], outcome: u8) -> (Guard, usize) {
 #[test]
 fn any_table_any_guard_any_outcome() {
     let mut draw = Draw::new(61);
-    let mut seen = [0; 14];
+    let mut seen = [0; 18];
     for _ in 0..cases(200_000) {
         let mut table = drawn_table(&mut draw, 6);
         if draw.one_in(2) {
             damage(&mut draw, &mut table);
         }
         agree_on_start(&table);
-        let state = draw.of(&[0, 1, 2, 3, 4, 5, 6, 7, 255, 256, 2047, 65_535]);
-        let mut guard = Guard { state, lost: draw.one_in(3) };
+        let mut guard = draw.guard(6);
         for _ in 0..4 {
             let outcome = draw.of(&[0, 0, 0, 1, 1, 1, 2, 255]);
             let refused;
@@ -44,7 +43,79 @@ fn any_table_any_guard_any_outcome() {
             seen[refused] += 1;
         }
     }
-    assert!([0, 10, 11, 12, 13].iter().all(|&number| seen[number] > 100), "{seen:?}");
+    assert!([0, 10, 11, 12, 13, 17].iter().all(|&number| seen[number] > 100), "{seen:?}");
+}
+
+/// "A guard with nothing told isn't lost, is in state 0, holds 11 hits and has the count 0. The library makes one; a guard
+/// of zero bytes is another, for it holds misses."
+#[test]
+fn nothing_told() {
+    let nothing = floe::Guard { state: 0, lost: false, outcomes: [true; 11], count: 0 };
+    assert_eq!(floe::guard::new(), nothing);
+    assert_eq!(floe::guard::start(TABLE).guard, nothing);
+    assert_eq!(floe::guard::start(&TABLE[1..]).guard, nothing);
+    assert_eq!(expected::guard(FRESH), nothing);
+}
+
+/// AnyHit(1,2): after a miss a hit.
+const TABLE: &[u8] = &[0, 0, 0, 0x0B, 1, 0, 2, 0, 1, 0, 0, 0xFF, 0xFF, 0, 0];
+
+/// The largest count, and those around it: "as ask; then 13 with 0; then 17", every choice of faults, of a lost guard too.
+/// A refused tell gives back the guard that came.
+#[test]
+fn every_choice_of_faults_at_the_largest_count() {
+    let tables = [
+        (TABLE, 0),
+        (&TABLE[..14], 10),
+        (&[0, 0, 0, 0x0B, 2, 0, 2, 0, 1, 0, 0, 0xFF, 0xFF, 0, 0], 11),
+        (&[0, 0, 0, 0x0B, 1, 0, 2, 0, 2, 0, 0, 0xFF, 0xFF, 0, 2], 12),
+    ];
+    let mut outcomes = [true; HELD];
+    outcomes[3] = false;
+    for count in [0, 1, u64::from(u32::MAX), 1 << 63, u64::MAX - 2, u64::MAX - 1, u64::MAX] {
+        for (table, fault) in tables {
+            for outcome in [0, 1, 2, 255] {
+                for (state, lost) in [(0, false), (1, false), (0, true), (1, true)] {
+                    let guard = Guard { state, lost, outcomes, count };
+                    let faults = [(fault > 0, fault), (outcome > 1, 13), (count == u64::MAX, 17)];
+                    let want = faults.iter().find(|(present, _)| *present).map_or(0, |&(_, number)| number);
+                    let (told, refused) = agree_on_guard(guard, table, outcome);
+                    assert_eq!(refused, want, "{guard:?} told {outcome}");
+                    assert_eq!(told.count, if want == 0 { count + 1 } else { count });
+                }
+            }
+        }
+    }
+}
+
+/// What is held after each tell: the outcome as the newest, without the oldest; from the miss in panic on, what was held
+/// before it.
+#[test]
+fn outcomes_held() {
+    let mut guard = floe::guard::start(TABLE).guard;
+    let rows = [
+        (0, "11111111110", false),
+        (1, "11111111101", false),
+        (1, "11111111011", false),
+        (0, "11111110110", false),
+        (1, "11111101101", false),
+        (0, "11111011010", false),
+        (1, "11110110101", false),
+        (1, "11101101011", false),
+        (1, "11011010111", false),
+        (1, "10110101111", false),
+        (1, "01101011111", false),
+        (0, "11010111110", false),
+        (0, "11010111110", true),
+        (1, "11010111110", true),
+        (0, "11010111110", true),
+    ];
+    for (count, (outcome, held, lost)) in (1..).zip(rows) {
+        guard = floe::guard::tell(guard, TABLE, outcome).guard;
+        let outcomes = guard.outcomes.map(|hit| if hit { '1' } else { '0' });
+        assert_eq!(String::from_iter(outcomes), held, "after {count} outcomes");
+        assert_eq!((guard.lost, guard.count), (lost, count));
+    }
 }
 
 /// On the table of a set a guard that was told a pattern says what the meaning of kept says of it: every limit alone,
@@ -93,19 +164,27 @@ fn row_misses() {
     }
 }
 
-/// "Eleven hits in a row, one job less than the longest window, bring it back to state 0 unless it is lost."
+/// The guard is what its whole story says. "Eleven hits in a row, one job less than the longest window, bring it back to
+/// state 0 unless it is lost."
 #[test]
 fn long_runs_on_tables_of_sets() {
     let mut draw = Draw::new(63);
     for _ in 0..cases(200) {
-        let table = table::bytes(&table::states(&draw.set()));
-        let mut guard = FRESH;
-        for _ in 0..500 {
+        let set = draw.set();
+        let states = table::states(&set);
+        let table = table::bytes(&states);
+        let (mut guard, mut story) = (FRESH, Story::default());
+        for job in 0..500 {
             let panic = ask(guard, &table) == Ok(Answer::Panic);
             let miss = draw.one_in(2) && (!panic || draw.one_in(100));
             (guard, _) = agree_on_guard(guard, &table, u8::from(!miss));
+            if job < 60 {
+                story.tell(&set, u8::from(!miss));
+                assert_eq!(guard, story.guard(&states), "{story:?} under {set:?}");
+            }
         }
-        let hits = (0..11).fold(guard, |guard, _| agree_on_guard(guard, &table, 1).0);
-        assert!(guard.lost || hits == FRESH);
+        let hits = (0..HELD).fold(guard, |guard, _| agree_on_guard(guard, &table, 1).0);
+        assert_eq!(hits.count, 500 + HELD as u64);
+        assert!(guard.lost || hits == Guard { count: hits.count, ..FRESH });
     }
 }

@@ -2,10 +2,12 @@
 
 use floelinnet_tests::draw::{cases, Draw};
 use floelinnet_tests::pages::pages;
-use floelinnet_tests::reference::limits::{allowed_limits, holds, set_keeps, width, Limit};
+use floelinnet_tests::reference::carry::{read, record};
+use floelinnet_tests::reference::guard::{ask, tell, Answer, Story, FRESH, HELD};
+use floelinnet_tests::reference::limits::{allowed_limits, holds, set_keeps, width, Limit, LONGEST_WINDOW};
 use floelinnet_tests::reference::table::{bytes, check, states, State};
 use floelinnet_tests::reference::verdict::{lost, Lost};
-use floelinnet_tests::reference::{patterns_in_order, HIT, MISS};
+use floelinnet_tests::reference::{patterns_in_order, sets, HIT, MISS};
 
 /// The rules with no machine: a state is what is kept after a pattern, as far as windows of `longest` jobs can tell.
 fn states_by_continuations(set: &[Limit], longest: usize) -> Vec<State> {
@@ -97,4 +99,35 @@ fn windows_that_fail() {
         several += usize::from(fails.len() > 1);
     }
     assert!(several > 1000, "{several}");
+}
+
+/// Step by step a guard comes to what its whole story says, and so it does with a change of the battery before each step.
+#[test]
+fn guards_are_their_stories() {
+    let mut draw = Draw::new(35);
+    let mut heard = [0; 3];
+    for _ in 0..cases(60) {
+        let limits = draw.set();
+        let (set, states) = (sets::bytes(&limits), states(&limits));
+        let table = bytes(&states);
+        let (mut guard, mut story) = (FRESH, Story::default());
+        for _ in 0..50 {
+            let answer = story.answer(&limits);
+            assert_eq!(ask(guard, &table), Ok(answer), "{story:?} under {limits:?}");
+            heard[answer as usize] += 1;
+            let miss = draw.one_in(2) && (answer != Answer::Panic || draw.one_in(30));
+            guard = tell(guard, &table, u8::from(!miss)).unwrap();
+            story.tell(&limits, u8::from(!miss));
+            assert_eq!(guard, story.guard(&states), "{story:?} under {limits:?}");
+            assert_eq!(read(&record(guard, &set), &table), Ok(guard), "{story:?} under {limits:?}");
+        }
+    }
+    assert!(heard.iter().all(|&times| times > 100), "{heard:?}");
+}
+
+/// "Eleven outcomes are enough because no window has more than 12 jobs": no limit has a longer one, and one has it.
+#[test]
+fn as_many_held_as_a_window_reaches_back() {
+    let longest = allowed_limits().into_iter().map(width).max();
+    assert_eq!((longest, HELD), (Some(LONGEST_WINDOW), LONGEST_WINDOW - 1));
 }

@@ -1,10 +1,11 @@
 //! The three calls on a row of guards against the reference, all the memory around the row looked at after each.
 
+use std::mem::size_of;
 use std::slice;
 
 use floelinnet_tests::damage::{damage, drawn_table};
 use floelinnet_tests::draw::{cases, Draw};
-use floelinnet_tests::reference::guard::{Answer, Guard, FRESH};
+use floelinnet_tests::reference::guard::{Answer, Guard, FRESH, HELD};
 use floelinnet_tests::reference::{row, table, Refusal};
 use floelinnet_tests::{expected, floe};
 
@@ -18,18 +19,23 @@ enum Call {
     Tell(u8),
 }
 
-/// A guard's record with its last byte, which holds nothing, by name: a neighbour's stays too.
+/// A guard's record with the bytes that hold nothing by name: a neighbour's stay too.
 #[repr(C)]
 #[derive(Clone, Copy, PartialEq, Eq, Debug)]
 struct Record {
     state: u16,
     lost: u8,
-    spare: u8,
+    outcomes: [u8; HELD],
+    spare: [u8; SPARE],
+    count: u64,
 }
+
+const SPARE: usize = size_of::<floe::Guard>() - 2 - 1 - HELD - 8;
 
 impl Record {
     fn hold(&mut self, guard: Guard) {
         (self.state, self.lost) = (guard.state, u8::from(guard.lost));
+        (self.outcomes, self.count) = (guard.outcomes.map(u8::from), guard.count);
     }
 }
 
@@ -41,8 +47,14 @@ struct Rows {
 
 impl Rows {
     fn new(draw: &mut Draw, want: Vec<Guard>) -> Rows {
-        let chance = |_| Record { state: draw.number() as u16, lost: draw.byte(), spare: draw.byte() };
-        let mut memory: Vec<Record> = (0..want.len() + 2 * MARGIN).map(chance).collect();
+        let mut chance = |_| Record {
+            state: draw.number() as u16,
+            lost: draw.byte(),
+            outcomes: [(); HELD].map(|()| draw.byte()),
+            spare: [(); SPARE].map(|()| draw.byte()),
+            count: draw.count(),
+        };
+        let mut memory: Vec<Record> = (0..want.len() + 2 * MARGIN).map(&mut chance).collect();
         memory[MARGIN..].iter_mut().zip(&want).for_each(|(record, &guard)| record.hold(guard));
         Rows { want, memory }
     }
@@ -92,11 +104,10 @@ fn number(answer: Result<Option<Answer>, Refusal>) -> usize {
 #[test]
 fn any_row_any_call() {
     let mut draw = Draw::new(71);
-    let mut seen = [0; 15];
+    let mut seen = [0; 18];
     for _ in 0..cases(50_000) {
         let count: usize = draw.of(&[0, 1, 2, 5, 15, 16, 17, 20]);
-        let guard = |_| Guard { state: draw.below(7) as u16, lost: draw.one_in(4) };
-        let guards = (0..count).map(guard).collect();
+        let guards = (0..count).map(|_| draw.guard(7)).collect();
         let mut rows = Rows::new(&mut draw, guards);
         let mut table = drawn_table(&mut draw, 6);
         if draw.one_in(3) {
@@ -109,7 +120,7 @@ fn any_row_any_call() {
             seen[number(rows.agree(call, job, &table))] += 1;
         }
     }
-    assert!([0, 10, 11, 12, 13, 14].iter().all(|&number| seen[number] > 100), "{seen:?}");
+    assert!([0, 10, 11, 12, 13, 14, 17].iter().all(|&number| seen[number] > 100), "{seen:?}");
 }
 
 /// Rows on tables of sets, told outcomes by chance for many jobs, with refused calls in between.
@@ -155,8 +166,8 @@ const SHORT: &[u8] = &[0, 0, 0, 0x0A, 1, 0, 2, 0, 1, 0, 0, 0xFF, 0xFF, 0, 0];
 const VERSION_2: &[u8] = &[0, 0, 0, 0x0B, 2, 0, 2, 0, 1, 0, 0, 0xFF, 0xFF, 0, 0];
 const COUNT_3: &[u8] = &[0, 0, 0, 0x0B, 1, 0, 3, 0, 1, 0, 0, 0xFF, 0xFF, 0, 0];
 
-/// "14; then as the call on a single guard", 10 to 12, then 13: every choice of faults on every call. A refused start
-/// leaves the job's old guard, in panic or lost.
+/// "14; then as the call on a single guard", 10 to 12, then 13, then 17: every choice of faults on every call. A refused
+/// start leaves the job's old guard, in panic or lost, and one that was told all that it can count.
 #[test]
 fn every_choice_of_faults() {
     let mut draw = Draw::new(73);
@@ -166,10 +177,12 @@ fn every_choice_of_faults() {
         for (table, fault) in tables {
             for call in [Call::Start, Call::Ask, Call::Tell(0), Call::Tell(1), Call::Tell(2), Call::Tell(255)] {
                 let no_outcome = matches!(call, Call::Tell(2..));
-                let want = [(no_job, 14), (fault > 0, fault), (no_outcome, 13)];
-                let want = want.iter().find(|(refused, _)| *refused).map_or(0, |&(_, number)| number);
-                for lost in [false, true] {
-                    let mut rows = Rows::new(&mut draw, vec![Guard { state: 1, lost }; count]);
+                for (lost, told) in [(false, 1), (true, 2), (false, u64::MAX), (true, u64::MAX)] {
+                    let no_more = matches!(call, Call::Tell(_)) && told == u64::MAX;
+                    let want = [(no_job, 14), (fault > 0, fault), (no_outcome, 13), (no_more, 17)];
+                    let want = want.iter().find(|(refused, _)| *refused).map_or(0, |&(_, number)| number);
+                    let guard = Guard { state: 1, lost, count: told, ..FRESH };
+                    let mut rows = Rows::new(&mut draw, vec![guard; count]);
                     assert_eq!(number(rows.agree(call, job, table)), want, "{call:?}, {count} guards, job {job}");
                 }
             }
@@ -190,7 +203,7 @@ const ANY_MISS: &[u8] = &[0, 0, 0, 7, 1, 0, 1, 0, 0, 0, 0];
 
 /// Worked calls: the table, the row before, the calls and what they answer, and the row after.
 ///
-/// A guard is its state, with `!` where it is lost. A call is `s` start, `a` ask, `m` tell a miss, `h` tell a hit or
+/// A guard is its state, with `!` where it is lost; one with nothing told but for these is meant before. A call is `s` start, `a` ask, `m` tell a miss, `h` tell a hit or
 /// `x` tell 255, and the job's number. An answer is `-` where a start or a tell wasn't refused, `n`, `p` or `l` for
 /// what an ask says, or the number of the refusal.
 #[rustfmt::skip]
@@ -252,12 +265,32 @@ fn worked_calls() {
             })
             .collect();
         assert_eq!(found.join(" "), answers, "{calls} on {before}, table {table:02X?}");
-        assert_eq!(rows.want, guards(after), "{calls} on {before}, table {table:02X?}");
+        let stands =
+            |guards: &[Guard]| -> Vec<(u16, bool)> { guards.iter().map(|one| (one.state, one.lost)).collect() };
+        assert_eq!(stands(&rows.want), stands(&guards(after)), "{calls} on {before}, table {table:02X?}");
     }
 }
 
+/// A new row, and what its guards hold after some calls.
+#[test]
+fn what_a_row_holds() {
+    let mut row = [floe::guard::new(); 3];
+    for (job, outcome) in [(0, 0), (2, 0), (2, 0), (2, 1), (0, 1), (0, 1)] {
+        assert_eq!(floe::row::tell(&mut row, job, TABLE, outcome), floe::Done::default());
+    }
+    let held = |digits: &str| <[bool; HELD]>::try_from(digits.bytes().map(|digit| digit == b'1').collect::<Vec<_>>());
+    let guard = |state, lost, digits, count| floe::Guard { state, lost, outcomes: held(digits).unwrap(), count };
+    let fresh = guard(0, false, "11111111111", 0);
+    assert_eq!(row, [guard(0, false, "11111111011", 3), fresh, guard(1, true, "11111111110", 3)]);
+    assert_eq!(floe::row::start(&mut row, 2, TABLE), floe::Done::default());
+    assert_eq!(row, [guard(0, false, "11111111011", 3), fresh, fresh]);
+}
+
 fn guards(written: &str) -> Vec<Guard> {
-    let guard = |guard: &str| Guard { state: guard.trim_end_matches('!').parse().unwrap(), lost: guard.ends_with('!') };
+    let guard = |guard: &str| {
+        let state = guard.trim_end_matches('!').parse().unwrap();
+        Guard { state, lost: guard.ends_with('!'), ..FRESH }
+    };
     written.split_whitespace().map(guard).collect()
 }
 

@@ -1,4 +1,7 @@
-//! A lookup in a table with the tests that ask and tell make: 10, 11, the counts in 12 and the state's own entry.
+//! A lookup in a table with the tests that ask and tell make: 10, 11, the counts in 12 and the state's own entry. It
+//! has a state alone; below it stands a whole guard, with what the rules name.
+
+use super::verdict::HITS;
 
 #[inline(never)]
 pub fn may_miss(table: &[u8], state: u16) -> Result<bool, u8> {
@@ -24,6 +27,58 @@ pub fn row_next(row: &mut [u16], job: usize, table: &[u8], outcome: u8) -> Resul
     Ok(())
 }
 
+/// One less than the longest window.
+pub const HELD: usize = HITS.len() - 1;
+
+#[derive(Clone, Copy, PartialEq, Eq, Debug)]
+pub struct Guard {
+    pub state: u16,
+    pub lost: bool,
+    pub outcomes: [bool; HELD],
+    pub count: u64,
+}
+
+pub const NEW: Guard = Guard { state: 0, lost: false, outcomes: [true; HELD], count: 0 };
+
+/// The whole table is tested: its head with the entry of state 0, and then all entries.
+#[inline(never)]
+pub fn start(table: &[u8]) -> Result<Guard, u8> {
+    entry(table, 0)?;
+    let pair = |bytes: &[u8]| u16::from_be_bytes([bytes[0], bytes[1]]);
+    let states = pair(&table[5..]);
+    for entry in table[7..].chunks_exact(4) {
+        let (miss, hit) = (pair(entry), pair(&entry[2..]));
+        if (miss >= states && miss != 0xFFFF) || hit >= states {
+            return Err(12);
+        }
+    }
+    Ok(NEW)
+}
+
+#[inline(never)]
+pub fn tell(mut guard: Guard, table: &[u8], outcome: u8) -> Result<Guard, u8> {
+    told(&mut guard, table, outcome)?;
+    Ok(guard)
+}
+
+#[inline(never)]
+pub fn row_tell(row: &mut [Guard], job: usize, table: &[u8], outcome: u8) -> Result<(), u8> {
+    test_job(row, job)?;
+    told(&mut row[job], table, outcome)
+}
+
+fn told(guard: &mut Guard, table: &[u8], outcome: u8) -> Result<(), u8> {
+    let next = moved(table, guard.state, outcome)?;
+    guard.count = guard.count.checked_add(1).ok_or(17)?;
+    guard.lost |= next == 0xFFFF;
+    if !guard.lost {
+        guard.state = next;
+        guard.outcomes.copy_within(1.., 0);
+        guard.outcomes[HELD - 1] = outcome == 1;
+    }
+    Ok(())
+}
+
 fn moved(table: &[u8], state: u16, outcome: u8) -> Result<u16, u8> {
     let (miss, hit) = entry(table, state)?;
     match outcome {
@@ -33,7 +88,7 @@ fn moved(table: &[u8], state: u16, outcome: u8) -> Result<u16, u8> {
     }
 }
 
-fn test_job(row: &[u16], job: usize) -> Result<(), u8> {
+fn test_job<T>(row: &[T], job: usize) -> Result<(), u8> {
     if job >= row.len() || row.len() > 16 {
         return Err(14);
     }
@@ -62,4 +117,10 @@ fn entry(table: &[u8], state: u16) -> Result<(u16, u16), u8> {
         return Err(12);
     }
     Ok((miss, hit))
+}
+
+/// What follows in a table that was tested.
+pub fn after(table: &[u8], state: u16, outcome: u8) -> u16 {
+    let at = 7 + 4 * usize::from(state) + 2 * usize::from(outcome);
+    u16::from_be_bytes([table[at], table[at + 1]])
 }

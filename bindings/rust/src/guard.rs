@@ -77,12 +77,13 @@ impl Guard {
     /// Tells the guard, after a job, its outcome, [`HIT`](crate::HIT) or [`MISS`](crate::MISS), and gives the guard to
     /// go on with.
     ///
-    /// A miss told in panic makes it lost, and no outcome brings a lost guard back. On a table that
-    /// [`build`](crate::build) made of a set, eleven hits in a row bring a guard that isn't lost back to what
-    /// [`start`](Guard::start) gave.
+    /// Its count is one more, and it holds the outcome as its newest, without its oldest. A miss told in panic makes it
+    /// lost instead: it then keeps state and outcomes, goes on counting, and no outcome brings it back. On a table that
+    /// [`build`](crate::build) made of a set, [`HELD`](crate::HELD) hits in a row bring a guard that isn't lost back to
+    /// state 0 with hits alone held; its count goes on.
     ///
-    /// Refuses by 10 to 12 as [`ask`](Guard::ask) does, then by 13. No outcome was told then, and the caller goes on
-    /// with the guard that it has:
+    /// Refuses by 10 to 12 as [`ask`](Guard::ask) does, then by 13, then by 17 where the count is [`u64::MAX`]. No
+    /// outcome was told then, and the caller goes on with the guard that it has:
     ///
     /// ```
     /// # use floelinnet::{Guard, Refused};

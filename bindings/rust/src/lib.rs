@@ -4,10 +4,10 @@
 //! what the library refuses is an [`Err`] with the number of the refusal. The crate tests nothing and rules nothing by
 //! itself. It keeps no state, allocates nothing and needs no standard library; the archive is for x86-64 Linux.
 //!
-//! An outcome is a byte, [`HIT`] or [`MISS`]; a pattern is a slice of them, oldest first. Sets of limits, tables and
-//! night logs are slices too, with the bytes that [`read_set`], [`build`] and [`write_log`] describe; a [`LimitSet`] is
-//! made of [`Limit`]s and has a set's bytes. Where a page says "refuses by 10 to 12", these are the numbers of
-//! [`Refused`].
+//! An outcome is a byte, [`HIT`] or [`MISS`]; a pattern is a slice of them, oldest first. Sets of limits, tables,
+//! carry-over records and night logs are slices too, with the bytes that [`read_set`], [`build`],
+//! [`Guard::write_record`] and [`write_log`] describe; a [`LimitSet`] is made of [`Limit`]s and has a set's bytes. Where
+//! a page says "refuses by 10 to 12", these are the numbers of [`Refused`].
 //!
 //! | to | call |
 //! |---|---|
@@ -15,6 +15,7 @@
 //! | judge a pattern that is over, and say where it broke | [`judge`] |
 //! | see whether one set demands as much as another | [`compare`] |
 //! | guard jobs while they run | [`build`] once, then [`Guard`], or [`row`] for several jobs with the same limits |
+//! | carry a guard through a change of the battery | [`Guard::write_record`], [`Guard::read_record`] |
 //! | check a table that comes from elsewhere | [`check_table`] |
 //! | store a visit's outcomes, eight to a byte, and judge it later | [`write_log`], [`judge_log`] |
 //! | read what was stored, outcome by outcome | [`LogReader`] |
@@ -43,6 +44,7 @@
 #![no_std]
 #![deny(missing_docs)]
 
+mod carry;
 mod compare;
 mod guard;
 mod night_log;
@@ -53,6 +55,7 @@ mod sets;
 mod table;
 mod verdict;
 
+pub use carry::record_size;
 pub use compare::{compare, Comparison, Pattern, RefusedSet};
 pub use guard::Answer;
 pub use night_log::{judge_log, log_size, write_log, LogReader};
@@ -79,6 +82,12 @@ pub const WORK_ENTRIES: usize = 8192;
 pub const LONGEST_TABLE: usize = 8199;
 /// How many guards a row has at the most.
 pub const MOST_GUARDS: usize = 16;
+/// How many jobs the longest window has.
+pub const LONGEST_WINDOW: usize = 12;
+/// How many outcomes a guard holds. A window that a later outcome completes reaches back no further.
+pub const HELD: usize = LONGEST_WINDOW - 1;
+/// The length in bytes of the longest carry-over record.
+pub const LONGEST_RECORD: usize = record_size(LONGEST_SET);
 
 /// The Rust programs of README and of the cookbook run as this crate's examples do.
 #[cfg(doctest)]

@@ -4,7 +4,7 @@
 //! Names, fields and their order are those of `include/floelinnet.h`. This is the one place where Rust declares them,
 //! and the only one with unsafe code.
 
-use crate::MOST_LIMITS;
+use crate::{HELD, MOST_LIMITS};
 
 /// A limit: its kind, and its numbers as the kind takes them.
 #[repr(C)]
@@ -32,7 +32,11 @@ pub struct Set {
 ///
 /// It belongs to the table that it was started on. No call can see which one that was: on another table its state is
 /// taken for the one of that number there, and refused only where there is none. To copy a guard is to copy the job's
-/// standing. The default is a guard with nothing told, which is what a new row holds; nobody has checked a table for it.
+/// standing. It holds its last outcomes, so that [`write_record`](Guard::write_record) can store it while it is
+/// switched off.
+///
+/// The default is a guard with nothing told: not lost, in state 0, hits alone held, count 0. It is what a new row
+/// holds; nobody has checked a table for it. All bytes zero are another guard, which holds misses.
 ///
 /// The guard to go on with is the one that comes back:
 ///
@@ -57,12 +61,24 @@ pub struct Set {
 /// ```
 #[must_use = "the guard to go on with is the one that comes back: `guard = guard.tell(..)?`"]
 #[repr(C)]
-#[derive(Clone, Copy, Default, PartialEq, Eq, Hash, Debug)]
+#[derive(Clone, Copy, PartialEq, Eq, Hash, Debug)]
 pub struct Guard {
-    /// The number of its state in the table.
+    /// The number of its state in the table. Of a lost guard, the one before the miss in panic.
     pub state: u16,
     /// Whether a miss was told in panic.
     pub lost: bool,
+    /// The last outcomes, oldest first, true for a hit, with hits in the places of those that it wasn't told yet. Of a
+    /// lost guard, those before the miss in panic.
+    pub outcomes: [bool; HELD],
+    /// How many outcomes it was told. A lost guard counts on, the miss in panic too.
+    pub count: u64,
+}
+
+/// A guard with nothing told, by `floe_guard_new`.
+impl Default for Guard {
+    fn default() -> Guard {
+        guard_new()
+    }
 }
 
 /// The answers, which all begin with the same two fields.
@@ -88,7 +104,7 @@ answers! {
         /// The set; of count 0 on a refusal.
         set: Set,
     }
-    /// What [`write_set`] and [`log_write`] answer.
+    /// What [`write_set`], [`carry_write`] and [`log_write`] answer.
     Written {
         /// How many bytes were written; 0 on a refusal.
         length: u64,
@@ -126,9 +142,9 @@ answers! {
         /// How many states the table has; 0 on a refusal.
         states: u64,
     }
-    /// What [`guard_start`] answers.
+    /// What [`guard_start`] and [`carry_read`] answer.
     Started {
-        /// A guard with nothing told, on a refusal too.
+        /// A guard with nothing told, or the one that was read back; on a refusal one with nothing told.
         guard: Guard,
     }
     /// What [`guard_ask`] answers.
@@ -178,6 +194,7 @@ extern "C" {
         table_len: usize,
     ) -> Built;
     fn floe_check_table(table: *const u8, table_len: usize) -> Checked;
+    fn floe_guard_new() -> Guard;
     fn floe_guard_start(table: *const u8, table_len: usize) -> Started;
     fn floe_guard_ask(guard: Guard, table: *const u8, table_len: usize) -> Asked;
     fn floe_guard_tell(guard: Guard, table: *const u8, table_len: usize, outcome: u8) -> Told;
@@ -191,6 +208,8 @@ extern "C" {
         table_len: usize,
         outcome: u8,
     ) -> Done;
+    fn floe_carry_write(guard: Guard, set: *const u8, set_len: usize, record: *mut u8, record_len: usize) -> Written;
+    fn floe_carry_read(record: *const u8, record_len: usize, table: *const u8, table_len: usize) -> Started;
     fn floe_log_write(pattern: *const u8, pattern_len: usize, log: *mut u8, log_len: usize) -> Written;
     fn floe_log_open(log: *const u8, log_len: usize) -> LogOpened;
     fn floe_log_next(place: u64, log: *const u8, log_len: usize) -> LogRead;
@@ -230,6 +249,11 @@ pub fn check_table(table: &[u8]) -> Checked {
     unsafe { floe_check_table(table.as_ptr(), table.len()) }
 }
 
+/// `floe_guard_new`.
+pub fn guard_new() -> Guard {
+    unsafe { floe_guard_new() }
+}
+
 /// `floe_guard_start`.
 pub fn guard_start(table: &[u8]) -> Started {
     unsafe { floe_guard_start(table.as_ptr(), table.len()) }
@@ -258,6 +282,16 @@ pub fn row_ask(row: &[Guard], job: usize, table: &[u8]) -> RowAsked {
 /// `floe_row_tell`.
 pub fn row_tell(row: &mut [Guard], job: usize, table: &[u8], outcome: u8) -> Done {
     unsafe { floe_row_tell(row.as_mut_ptr(), row.len(), job, table.as_ptr(), table.len(), outcome) }
+}
+
+/// `floe_carry_write`.
+pub fn carry_write(guard: Guard, set: &[u8], record: &mut [u8]) -> Written {
+    unsafe { floe_carry_write(guard, set.as_ptr(), set.len(), record.as_mut_ptr(), record.len()) }
+}
+
+/// `floe_carry_read`.
+pub fn carry_read(record: &[u8], table: &[u8]) -> Started {
+    unsafe { floe_carry_read(record.as_ptr(), record.len(), table.as_ptr(), table.len()) }
 }
 
 /// `floe_log_write`.

@@ -1,6 +1,8 @@
 use core::error::Error;
 use core::fmt;
 
+use crate::record_size;
+
 /// Why a call was refused. The tests are made in the order of the numbers, unless a function's page says otherwise, and
 /// the first that applies is given.
 #[derive(Clone, Copy, PartialEq, Eq, Hash, Debug)]
@@ -30,7 +32,7 @@ pub enum Refused {
     },
     /// 8: the work area has fewer than [`WORK_ENTRIES`](crate::WORK_ENTRIES) entries.
     WorkLength,
-    /// 9: the buffer is shorter than what must be written, a table, a set or a log.
+    /// 9: the buffer is shorter than what must be written, a table, a set, a log or a record.
     Room {
         /// The length in bytes that is needed.
         needed: usize,
@@ -45,7 +47,7 @@ pub enum Refused {
     States,
     /// 13: an outcome byte is neither 0 nor 1.
     Outcome {
-        /// Its place in the pattern, from 0; 0 in a tell.
+        /// Its place in the pattern, or among the outcomes of the record, from 0; 0 in a tell.
         place: usize,
     },
     /// 14: the job's number, from 0, isn't below the row's count of guards, or the row has more than
@@ -58,12 +60,24 @@ pub enum Refused {
     Log,
     /// 16: the low bits of the log's last byte that no outcome takes aren't all zero.
     UnusedBits,
+    /// 17: the guard that is told was told [`u64::MAX`] outcomes already. It can be asked and stored, but only a new
+    /// guard can be told more.
+    Count,
+    /// 18: the record has fewer bytes than [`record_size(0)`](crate::record_size), its length field isn't the count of
+    /// bytes after it, or its version isn't 1. A record that was cut short is refused so: start a new guard. A buffer
+    /// that is longer than the record in it is refused so too: pass `&record[..length]`.
+    Record,
+    /// 19: the lost byte of the record is neither 0 nor 1. Its bytes were changed since it was written.
+    LostByte,
+    /// 25: the outcomes of the record can't be walked on the table from state 0. The table wasn't built from the set
+    /// that the record carries, or the record's bytes were changed since it was written.
+    Walk,
     /// 26: the pattern that is to be judged has more than 9,223,372,036,854,775,807 outcomes. No slice is so long.
     PatternLength,
 }
 
 impl Refused {
-    /// The number of the refusal, 1 to 16 or 26.
+    /// The number of the refusal, 1 to 19, 25 or 26.
     pub fn number(self) -> u8 {
         match self {
             Refused::SetLength => 1,
@@ -82,6 +96,10 @@ impl Refused {
             Refused::Job => 14,
             Refused::Log => 15,
             Refused::UnusedBits => 16,
+            Refused::Count => 17,
+            Refused::Record => 18,
+            Refused::LostByte => 19,
+            Refused::Walk => 25,
             Refused::PatternLength => 26,
         }
     }
@@ -131,6 +149,22 @@ impl fmt::Display for Refused {
                  or the pattern has more than 4294967295 outcomes",
             ),
             Refused::UnusedBits => f.write_str("the unused low bits of the log's last byte aren't all zero"),
+            Refused::Count => f.write_str(
+                "the guard was told 18446744073709551615 outcomes already and can count no further: start a new guard",
+            ),
+            Refused::Record => write!(
+                f,
+                "the record has fewer than {} bytes, its length field isn't the count of bytes after it, or its \
+                 version isn't 1: it was cut short or is no record, so start a new guard",
+                record_size(0)
+            ),
+            Refused::LostByte => f.write_str(
+                "the lost byte of the record is neither 0 nor 1: its bytes were changed, so start a new guard",
+            ),
+            Refused::Walk => f.write_str(
+                "the outcomes of the record can't be walked on the table: build the table from the set that the record \
+                 carries, or, if it was, the record's bytes were changed, so start a new guard",
+            ),
             Refused::PatternLength => f.write_str("the pattern has more than 9223372036854775807 outcomes"),
         }
     }
@@ -159,6 +193,10 @@ pub(crate) fn accepted(refused: u64, at: u64) -> Result<(), Refused> {
         14 => Refused::Job,
         15 => Refused::Log,
         16 => Refused::UnusedBits,
+        17 => Refused::Count,
+        18 => Refused::Record,
+        19 => Refused::LostByte,
+        25 => Refused::Walk,
         26 => Refused::PatternLength,
         number => crate::no_such("refusal", number),
     })
@@ -171,7 +209,7 @@ mod tests {
     /// 26 is among them, which no call through a slice can give.
     #[test]
     fn each_number_is_its_own() {
-        for number in (1..=16).chain([26]) {
+        for number in (1..=19).chain([25, 26]) {
             assert_eq!(accepted(number, 7).map_err(Refused::number), Err(number as u8));
         }
         assert_eq!(accepted(26, 0), Err(Refused::PatternLength));

@@ -1,9 +1,9 @@
 //! A row of guards, one a job, on one table. Starting or telling one job changes its guard only, and a refused call
 //! changes none.
 //!
-//! The row is the caller's own slice. Every call refuses first by 14: the job's number isn't below the row's count of
-//! guards, or the row has more than [`MOST_GUARDS`](crate::MOST_GUARDS). Then it tests what the call on a single guard
-//! tests.
+//! The row is the caller's own slice; a new one holds guards with nothing told, [`Guard::default`]. Every call refuses
+//! first by 14: the job's number isn't below the row's count of guards, or the row has more than
+//! [`MOST_GUARDS`](crate::MOST_GUARDS). Then it tests what the call on a single guard tests.
 //!
 //! ```
 //! use floelinnet::{row, Answer, Guard, Refused, MISS};

@@ -77,18 +77,29 @@ fn of_build_and_check() {
 #[test]
 fn of_guards() {
     let fresh = Guard::start(&TABLE).unwrap();
+    assert_eq!(fresh, Guard { state: 0, lost: false, outcomes: [true; HELD], count: 0 });
     assert_eq!(fresh, Guard::default());
     let missed = fresh.tell(&TABLE, MISS).unwrap();
     let lost = missed.tell(&TABLE, MISS).unwrap();
     let met = missed.tell(&TABLE, HIT).unwrap();
-    assert_eq!(lost, Guard { state: 1, lost: true });
-    assert_eq!(lost.tell(&TABLE, HIT), Ok(lost));
-    assert_eq!(met, Guard { state: 2, lost: false });
-    assert_eq!(met.tell(&TABLE, HIT), Ok(fresh));
+    assert_eq!(missed, Guard { state: 1, lost: false, outcomes: held(&[MISS]), count: 1 });
+    // Lost, it keeps state and outcomes from before, and counts on.
+    assert_eq!(lost, Guard { lost: true, count: 2, ..missed });
+    assert_eq!(lost.tell(&TABLE, HIT), Ok(Guard { count: 3, ..lost }));
+    assert_eq!(met, Guard { state: 2, lost: false, outcomes: held(&[MISS, HIT]), count: 2 });
+    let back = (0..HELD).fold(met, |guard, _| guard.tell(&TABLE, HIT).unwrap());
+    assert_eq!(back, Guard { count: 2 + HELD as u64, ..fresh });
     let hears = |guard: Guard| guard.ask(&TABLE).unwrap();
     assert_eq!([fresh, missed, met, lost].map(hears), [Answer::Normal, Answer::Panic, Answer::Panic, Answer::Lost]);
     assert_eq!([fresh, missed, lost].map(|guard| hears(guard).to_string()), ["normal", "panic", "lost"]);
     assert_eq!(format!("{:8}|", hears(missed)), "panic   |");
+}
+
+/// What a guard holds that was told these outcomes: hits before them.
+fn held(told: &[u8]) -> [bool; HELD] {
+    let mut held = [true; HELD];
+    held[HELD - told.len()..].iter_mut().zip(told).for_each(|(place, &outcome)| *place = outcome == HIT);
+    held
 }
 
 #[test]
@@ -98,14 +109,50 @@ fn of_rows() {
     row::tell(&mut jobs, 15, &TABLE, MISS).unwrap();
     row::tell(&mut jobs, 15, &TABLE, MISS).unwrap();
     let mut want = [Guard::default(); MOST_GUARDS];
-    want[3].state = 1;
-    want[15] = Guard { state: 1, lost: true };
+    want[3] = Guard { state: 1, lost: false, outcomes: held(&[MISS]), count: 1 };
+    want[15] = Guard { lost: true, count: 2, ..want[3] };
     assert_eq!(jobs, want);
     let hears = [0, 3, 15].map(|job| row::ask(&jobs, job, &TABLE).unwrap());
     assert_eq!(hears, [Answer::Normal, Answer::Panic, Answer::Lost]);
     row::start(&mut jobs, 15, &TABLE).unwrap();
     want[15] = Guard::default();
     assert_eq!(jobs, want);
+}
+
+/// After every pattern of up to 10 jobs the guard comes back from its record, and goes on as if nothing had been.
+#[test]
+fn of_records() {
+    for jobs in 0..=10 {
+        for number in 0..1 << jobs {
+            let pattern: Vec<u8> = (0..jobs).rev().map(|bit| (number >> bit) as u8 & 1).collect();
+            let tell = |guard: Guard, &outcome: &u8| guard.tell(&TABLE, outcome).unwrap();
+            let guard = pattern.iter().fold(Guard::start(&TABLE).unwrap(), tell);
+            let mut record = [7; LONGEST_RECORD];
+            let length = guard.write_record(&ALL_KINDS, &mut record).unwrap();
+            assert_eq!(length, record_size(ALL_KINDS.len()));
+            assert_eq!(record[length..], [7; LONGEST_RECORD][length..]);
+            assert_eq!(Guard::read_record(&record[..length], &TABLE), Ok(guard), "{pattern:?}");
+        }
+    }
+}
+
+#[test]
+fn of_a_records_bytes() {
+    let one_of_two = [0, 0, 0, 5, 1, 1, 0, 1, 2];
+    let guard = Guard { state: 1, lost: true, outcomes: held(&[MISS, HIT, HIT, MISS]), count: 0x0102_0304_0506_0708 };
+    let mut record = [7; 36];
+    assert_eq!(guard.write_record(&one_of_two, &mut record), Ok(34));
+    let want = [
+        &[0, 0, 0, 30, 1][..],
+        &one_of_two,
+        &[1, 1, 1, 1, 1, 1, 1, 0, 1, 1, 0],
+        &[1, 2, 3, 4, 5, 6, 7, 8],
+        &[1],
+        &[7, 7],
+    ];
+    assert_eq!(record[..], want.concat());
+    assert_eq!(record_size(0), 25);
+    assert_eq!((HELD, LONGEST_RECORD), (11, 55));
 }
 
 /// Every pattern of up to 10 jobs comes back from its log, and is judged there as it is without one.

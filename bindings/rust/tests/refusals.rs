@@ -12,6 +12,11 @@ fn with<const N: usize>(mut bytes: [u8; N], place: usize, byte: u8) -> [u8; N] {
     bytes
 }
 
+/// A guard that was told two misses.
+fn lost() -> Guard {
+    [MISS, MISS].iter().fold(Guard::default(), |guard, &outcome| guard.tell(&TABLE, outcome).unwrap())
+}
+
 fn says(refused: Refused, number: u8, at: usize, words: &str) {
     assert_eq!((refused.number(), refused.at()), (number, at), "{refused:?}");
     assert_eq!(refused.to_string(), format!("refusal {number}: {words}"));
@@ -83,14 +88,29 @@ fn of_tables_and_guards() {
         says(guard.ask(table).unwrap_err(), number, 0, words);
         says(guard.tell(table, HIT).unwrap_err(), number, 0, words);
     }
-    says(Guard { state: 2, lost: true }.ask(&TABLE).unwrap_err(), 12, 0, states);
+    says(Guard { state: 2, ..lost() }.ask(&TABLE).unwrap_err(), 12, 0, states);
 }
 
 #[test]
 fn of_outcomes() {
     says(judge(&SET, &[0, 0, 1, 2, 255]).unwrap_err(), 13, 3, "the outcome at place 3 is neither 0 nor 1");
-    let guard = Guard { state: 1, lost: true };
-    says(guard.tell(&TABLE, 2).unwrap_err(), 13, 0, "the outcome at place 0 is neither 0 nor 1");
+    says(lost().tell(&TABLE, 2).unwrap_err(), 13, 0, "the outcome at place 0 is neither 0 nor 1");
+}
+
+/// 13 before 17, and 17 of a lost guard too. Asked it is as before.
+#[test]
+fn of_counts() {
+    let words = "the guard was told 18446744073709551615 outcomes already and can count no further: start a new guard";
+    for guard in [Guard::default(), lost()].map(|guard| Guard { count: u64::MAX, ..guard }) {
+        says(guard.tell(&TABLE, HIT).unwrap_err(), 17, 0, words);
+        assert_eq!(guard.tell(&TABLE, 2), Err(Refused::Outcome { place: 0 }));
+        assert!(guard.ask(&TABLE).is_ok());
+        let mut jobs = [guard; 2];
+        says(row::tell(&mut jobs, 1, &TABLE, MISS).unwrap_err(), 17, 0, words);
+        assert_eq!(jobs, [guard; 2]);
+        let last = Guard { count: u64::MAX - 1, ..guard };
+        assert_eq!(last.tell(&TABLE, HIT), Ok(guard));
+    }
 }
 
 /// No slice is so long that a call would say so.
@@ -102,7 +122,7 @@ fn of_patterns_that_are_too_long() {
 #[test]
 fn of_rows() {
     let words = "the job's number isn't below the row's count of guards, or the row has more than 16";
-    let stands = Guard { state: 1, lost: true };
+    let stands = lost();
     for (count, job) in [(0, 0), (3, 3), (3, usize::MAX), (MOST_GUARDS + 1, 0)] {
         let mut guards = [stands; MOST_GUARDS + 1];
         let jobs = &mut guards[..count];
@@ -115,6 +135,44 @@ fn of_rows() {
     assert_eq!(row::start(&mut jobs, 1, &TABLE[..14]), Err(Refused::TableLength));
     assert_eq!(row::tell(&mut jobs, 1, &TABLE, 2), Err(Refused::Outcome { place: 0 }));
     assert_eq!(jobs, [stands; 3]);
+}
+
+#[test]
+fn of_written_records() {
+    let mut record = [7; 33];
+    let guard = lost();
+    says(
+        guard.write_record(&SET, &mut record).unwrap_err(),
+        9,
+        34,
+        "the buffer is shorter than the 34 bytes to be written",
+    );
+    assert_eq!(guard.write_record(&SET[..8], &mut record), Err(Refused::SetLength)); // the set before the buffer
+    assert_eq!(guard.write_record(&with(SET, 8, 13), &mut []), Err(Refused::LimitK { limit: 0 }));
+    assert_eq!(record, [7; 33]);
+}
+
+#[test]
+fn of_records() {
+    let words =
+        "the record has fewer than 25 bytes, its length field isn't the count of bytes after it, or its version \
+                 isn't 1: it was cut short or is no record, so start a new guard";
+    let mut record = [0; 34];
+    assert_eq!(lost().write_record(&SET, &mut record), Ok(34));
+    let refused = |record: &[u8], table: &[u8]| Guard::read_record(record, table).unwrap_err();
+    for length in 0..34 {
+        says(refused(&record[..length], &TABLE), 18, 0, words);
+    }
+    says(refused(&with(record, 4, 2), &TABLE), 18, 0, words);
+    assert_eq!(refused(&with(record, 9, 2), &[]), Refused::SetVersion);
+    says(refused(&with(record, 24, 2), &[]), 13, 10, "the outcome at place 10 is neither 0 nor 1");
+    let words = "the lost byte of the record is neither 0 nor 1: its bytes were changed, so start a new guard";
+    says(refused(&with(record, 33, 2), &[]), 19, 0, words);
+    assert_eq!(refused(&record, &TABLE[..14]), Refused::TableLength);
+    let words =
+        "the outcomes of the record can't be walked on the table: build the table from the set that the record \
+                 carries, or, if it was, the record's bytes were changed, so start a new guard";
+    says(refused(&with(record, 23, 0), &TABLE), 25, 0, words);
 }
 
 #[test]

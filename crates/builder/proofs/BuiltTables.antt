@@ -68,11 +68,11 @@ module _ (set work work′ table table′ : List ℕ) (size : ℕ) (built : Buil
   early-passed : first (earlyRows longest set work) ≡ passed
   early-passed = both-passed (earlyRows longest set work) (roomRow table (sizeOf (m .states)) ∷ []) all-passed .0
 
-  set-passed : first (setRows longest set) ≡ passed
-  set-passed = both-passed (setRows longest set) (areaRow work ∷ []) early-passed .0
+  pub built-accepted : first (setRows longest set) ≡ passed
+  built-accepted = both-passed (setRows longest set) (areaRow work ∷ []) early-passed .0
 
   pub built-allowed : SetAllowed longest (setOf set)
-  built-allowed = accepted-allowed longest set set-passed
+  built-allowed = accepted-allowed longest set built-accepted
 
   pub built-canonical : Canonical m (KeptBy (setOf set))
   built-canonical = built .1 .canonical early-passed

@@ -11,6 +11,7 @@ use Rattle.layout.specs.Write.{roomRow, lengthWhen, bufferWhen}
 use Rattle.layout.proofs.Rows.{both-passed, passed-before, long-enough}
 use Rattle.layout.proofs.Write.{written-by}
 use Rattle.patterns.specs.Outcome.{outcome}
+use Rattle.patterns.proofs.Outcomes.{outcome-bit}
 use Rattle.machines.specs.Machine.{walk}
 use Rattle.meaning.specs.Longest.{longest}
 use Rattle.sets.specs.Rows.{setRows}
@@ -26,7 +27,7 @@ use Rattle.carry.specs.Write.{RecordWrittenAs}
 use Rattle.carry.specs.Read.{ReadBackAs}
 use Rattle.carry.proofs.Reading.{back-led}
 use Rattle.carry.proofs.OneResult.{read-back-one-result}
-use Rattle.carry.proofs.RoundTrip.{outcome-bit, record-length, outcomes-of-record, count-of-record, lost-of-record, record-accepted}
+use Rattle.carry.proofs.RoundTrip.{record-length, outcomes-of-record, count-of-record, lost-of-record, record-accepted}
 
 -- A guard holds as many outcomes as a record, and with the next one they fill the longest window. Where any two of these numbers differ, this fails.
 pub held-are-carried : held ≡ carried

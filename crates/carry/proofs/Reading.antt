@@ -2,38 +2,15 @@
 use mathlib.Core.Path.{_≡_, refl, sym, ap, _∙_}
 use mathlib.Core.Option.{none, some}
 use mathlib.Core.List.{List, [], _∷_, _++_}
-use Prim.Native.Nat.{ℕ, _≤_}
-use lib.Dec.{ltb}
-use lib.ListN.{length}
+use Prim.Native.Nat.{ℕ}
 use Rattle.layout.specs.Refusal.{Row, row, Tested, passed, refused, first}
-use Rattle.layout.specs.Head.{headRows}
-use Rattle.layout.proofs.Head.{head-passed}
-use Rattle.layout.proofs.Rows.{refused-before, passed-before, both-passed, first-here, first-skip}
-use Rattle.patterns.specs.Outcome.{outcomeRows}
-use Rattle.sets.specs.Rows.{setRows}
+use Rattle.layout.proofs.Rows.{refused-before, passed-before, first-here, first-skip}
 use Rattle.table.specs.Rows.{tableRows}
 use Rattle.guard.specs.declared.Started.{Started}
 use Rattle.guard.specs.declared.StartAnswer.the-variants as start
 use Rattle.guard.specs.Guard.{startSays}
-use Rattle.carry.specs.Bytes.{aroundSet, setIn, outcomeBytes, lostByte}
 use Rattle.carry.specs.Rows.{recordRows, ledTo, leadsNowhere, readRows}
 use Rattle.carry.specs.Read.{guardAt, guardWhen, ReadBackAs, refusedBack}
-
-module _ (w h : ℕ) (r : List ℕ) (e : first (recordRows w h r) ≡ passed) where
-  pub record-head : first (headRows (aroundSet h) 18 18 r) ≡ passed
-  record-head = both-passed (headRows (aroundSet h) 18 18 r) _ e .0
-
-  pub record-long : aroundSet h ≤ length r
-  record-long = head-passed (aroundSet h) 18 18 r record-head .0
-
-  after-head : first (setRows w (setIn h r) ++ (outcomeRows (outcomeBytes h r) 0 ++ (row 19 (ltb 1 (lostByte r)) 0 ∷ []))) ≡ passed
-  after-head = both-passed (headRows (aroundSet h) 18 18 r) _ e .1
-
-  pub record-set : first (setRows w (setIn h r)) ≡ passed
-  record-set = both-passed (setRows w (setIn h r)) _ after-head .0
-
-  pub record-outcomes : first (outcomeRows (outcomeBytes h r) 0) ≡ passed
-  record-outcomes = both-passed (outcomeRows (outcomeBytes h r) 0) _ (both-passed (setRows w (setIn h r)) _ after-head .1) .0
 
 module _ (w h : ℕ) (r b : List ℕ) where
   -- the rows that are left after the record's

@@ -1,8 +1,6 @@
 // The carry-over record: a guard as it is stored while it is switched off, beside the set whose table it walks.
 // Writing refuses by 1 to 7 and then by 9; reading back by 18, 1 to 7, 13, 19, 10 to 12 and then by 25.
 ghost use mathlib.Core.Path.{_≡_};
-ghost use Prim.Native.Nat.{_+_, _≤_};
-ghost use lib.ListN.{length};
 ghost use Rattle.layout.specs.Refusal.{first};
 ghost use Rattle.meaning.specs.Longest.{longest};
 ghost use Rattle.guard.specs.Guard.{startSays};

@@ -6,7 +6,7 @@ ghost use Prim.Native.Nat.{_+_, _≤_, _<_};
 ghost use lib.ListN.{length, take, drop};
 ghost use Rattle.patterns.specs.Outcome.{bit};
 ghost use Rattle.meaning.specs.Longest.{longest};
-ghost use Rattle.carry.specs.Bytes.{carried, headBytes, tailBytes, tailSize, sizeOf};
+ghost use Rattle.carry.specs.Bytes.{carried, headBytes, tailBytes, tailSize};
 ghost use Rattle.carry.specs.Write.{RecordWrittenAs};
 use super::AROUND;
 use super::TAIL;

@@ -36,7 +36,7 @@ use Rattle.guard.specs.declared.Guard.{Guard}
 use Rattle.guard.specs.declared.Started.{Started}
 use Rattle.guard.specs.declared.StartAnswer.the-variants as start
 use Rattle.guard.specs.Guard.{StartedAs, AskedAs, tellRows, ToldAs}
-use Rattle.guard.specs.Told.{toldAll, heard}
+use Rattle.guard.specs.Told.{heard}
 use Rattle.guard.specs.Row.{rowStartRows, RowStartedAs, rowAskRows, RowAskedAs, rowTellRows, RowToldAs}
 use Rattle.guard.specs.Runs.{RowCall, RowRun, callsOf, OnTable, bytesTold}
 use Rattle.floelinnet.specs.declared.FloeSetRead.{FloeSetRead}
@@ -55,7 +55,8 @@ use Rattle.demands.specs.Refusing.{RefusesFlat}
 use Rattle.demands.specs.TableOf.{TableOf}
 use Rattle.demands.specs.Judging.{Keeps}
 use Rattle.demands.specs.Guarding.{ByKeptFlat}
-use Rattle.demands.proofs.Numbers.{WriteNumber, write-numbers, JudgeNumber, judge-numbers, table-numbers, look-numbers, tell-numbers, RowNumber, row-start-numbers, row-ask-numbers, row-tell-numbers}
+use Rattle.demands.specs.Carrying.{Event, Through, toldIn}
+use Rattle.demands.proofs.Numbers.{WriteNumber, write-numbers, JudgeNumber, judge-numbers, table-numbers, look-numbers, TellNumber, tell-numbers, tell-positive, RowNumber, row-start-numbers, row-ask-numbers, RowTellNumber, row-tell-numbers, row-tell-positive}
 use Rattle.demands.proofs.Answers.{one-size}
 use Rattle.demands.proofs.FlatAnswers.{opens-refuses, set-opens, written-opens, verdict-opens, kept-flat, kept-or-not, lost-flat, built-opens, checked-opens, start-opens, ask-opens, tell-opens, answers-flat, refused-flat}
 use Rattle.demands.proofs.FlatComparison.{compared-opens, compared-accepted, covers-flat, between-flat}
@@ -113,9 +114,9 @@ pub floe-guard-ask-refuses : (b : List ℕ) (g : Guard) (f : FloeAsked) → Flat
 floe-guard-ask-refuses b g f (a, asked, e) =
     rw e (opens-refuses (from-to 10 12) (lookRows b (g .state)) (λ n. at-least 10 12 n (omega arith)) (look-numbers b (g .state)) (ask-opens (a .answer)) (asked .refusal))
 
-pub floe-guard-tell-refuses : (b : List ℕ) (g : Guard) (byte : ℕ) (f : FloeTold) → FlatAnswer (ToldAs b g byte) flatTold f → RefusesFlat (from-to 10 13) (first (tellRows b g byte)) (f .refused) (f .at)
+pub floe-guard-tell-refuses : (b : List ℕ) (g : Guard) (byte : ℕ) (f : FloeTold) → FlatAnswer (ToldAs b g byte) flatTold f → RefusesFlat TellNumber (first (tellRows b g byte)) (f .refused) (f .at)
 floe-guard-tell-refuses b g byte f (a, told, e) =
-    rw e (opens-refuses (from-to 10 13) (tellRows b g byte) (λ n. at-least 10 13 n (omega arith)) (tell-numbers b g byte) (tell-opens (a .answer)) (told .refusal))
+    rw e (opens-refuses TellNumber (tellRows b g byte) tell-positive (tell-numbers b g byte) (tell-opens (a .answer)) (told .refusal))
 
 module _ (row row′ : List Guard) (job : ℕ) (b : List ℕ) where
   pub floe-row-start-refuses : (f : FloeDone) → FlatAnswer (λ a. RowStartedAs row job b a row′) flatStart f → RefusesFlat RowNumber (first (rowStartRows row job b)) (f .refused) (f .at)
@@ -124,9 +125,9 @@ module _ (row row′ : List Guard) (job : ℕ) (b : List ℕ) where
   pub floe-row-ask-refuses : (f : FloeRowAsked) → FlatAnswer (RowAskedAs row job b) flatAsk f → RefusesFlat RowNumber (first (rowAskRows row job b)) (f .refused) (f .at)
   floe-row-ask-refuses f (a, asked, e) = rw e (opens-refuses RowNumber (rowAskRows row job b) row-positive (row-ask-numbers row job b) (ask-opens a) (asked .refusal))
 
-  pub floe-row-tell-refuses : (byte : ℕ) (f : FloeDone) → FlatAnswer (λ a. RowToldAs row job b byte a row′) flatTell f → RefusesFlat (from-to 10 14) (first (rowTellRows row job b byte)) (f .refused) (f .at)
+  pub floe-row-tell-refuses : (byte : ℕ) (f : FloeDone) → FlatAnswer (λ a. RowToldAs row job b byte a row′) flatTell f → RefusesFlat RowTellNumber (first (rowTellRows row job b byte)) (f .refused) (f .at)
   floe-row-tell-refuses byte f (a, told, e) =
-      rw e (opens-refuses (from-to 10 14) (rowTellRows row job b byte) (λ n. at-least 10 14 n (omega arith)) (row-tell-numbers row job b byte) (tell-opens a) (told .refusal))
+      rw e (opens-refuses RowTellNumber (rowTellRows row job b byte) row-tell-positive (row-tell-numbers row job b byte) (tell-opens a) (told .refusal))
 
 -- Demand 2. The verdict.
 module _ (set pattern : List ℕ) (f : FloeVerdict) (flat : FlatAnswer (JudgedAs longest set pattern) flatVerdict f) where
@@ -171,9 +172,9 @@ floe-guard-ask-refused b g f (a, asked, e) = rw e (refused-flat (a .answer) (λ 
 pub floe-row-ask-refused : (row : List Guard) (job : ℕ) (b : List ℕ) (f : FloeRowAsked) → FlatAnswer (RowAskedAs row job b) flatAsk f → (f .answer ≡ 3) ↔ (f .refused ≡ 0 → ⊥)
 floe-row-ask-refused row job b f (a, asked, e) = rw e (refused-flat a (λ n v q. row-positive n (row-ask-refuses row job b a asked .numbers n v q)))
 
-pub floe-guard-ask-answers : (set b : List ℕ) → TableOf set b → (s : Started) → StartedAs b s → (told : List ℕ) (f : FloeAsked) → FlatAnswer (AskedAs b (toldAll b (s .guard) told)) flatAsked f
-    → ByKeptFlat (setOf set) (heard told) (f .answer)
-floe-guard-ask-answers set b t s started told f (a, asked, e) = rw e (answers-flat (setOf set) (heard told) (a .answer) (guard-answers set b t s started told a asked))
+pub floe-guard-ask-answers : (set b : List ℕ) → TableOf set b → (s : Started) → StartedAs b s → (events : List Event) (g : Guard) → Through set b (s .guard) events g → (f : FloeAsked) → FlatAnswer (AskedAs b g) flatAsked f
+    → ByKeptFlat (setOf set) (heard (toldIn events)) (f .answer)
+floe-guard-ask-answers set b t s started events g run f (a, asked, e) = rw e (answers-flat (setOf set) (heard (toldIn events)) (a .answer) (guard-answers set b t s started events g run a asked))
 
 pub floe-row-ask-answers : (set b : List ℕ) → TableOf set b → (row started last : List Guard) (job : ℕ) (calls : List RowCall) → RowStartedAs row job b start.Started started → RowRun started calls last
     → OnTable b (callsOf job calls) → (f : FloeRowAsked) → FlatAnswer (RowAskedAs last job b) flatAsk f → ByKeptFlat (setOf set) (heard (bytesTold (callsOf job calls))) (f .answer)

@@ -1,5 +1,5 @@
 -- Demand 1: "Sets of limits, patterns and tables may be any bytes of any length. Every public entry judges them itself and ends. It refuses only by the numbers of the rules, in their order, and a refusal writes nothing, except that a work area already in use comes back cleared."
--- Each entry is refused exactly by the first row that holds of its table, and by no number but its own; what was lent to a refused call is as it was. (The boundary's flat fields: `Boundary`. The printed line's, of which this file passes the theorems on: `printing/proofs/Refuses`.) That every entry ends is what the checker proves of every function. Assumes nothing.
+-- Each entry is refused exactly by the first row that holds of its table, and by no number but its own; what was lent to a refused call is as it was. (The boundary's flat fields: `Boundary`. The night log and the carry-over record: `NightLog`, `Carried`. The printed line's, of which this file passes the theorems on: `printing/proofs/Refuses`.) That every entry ends is what the checker proves of every function. Assumes nothing.
 use mathlib.Core.Path.{_≡_, ap, _∙_, subst}
 use mathlib.Core.Logic.{_↔_}
 use mathlib.Core.List.{List}
@@ -52,7 +52,7 @@ use Rattle.guard.specs.Row.{rowStartRows, RowStartedAs, rowAskRows, RowAskedAs,
 use Rattle.guard.proofs.RowLaws.{refused-start-leaves-row, refused-tell-leaves-row}
 pub use Rattle.printing.proofs.Refuses.{print-refuses, print-refused-by, refused-print-leaves-table, refused-print-leaves-work}
 use Rattle.demands.specs.Refusing.{Refuses}
-use Rattle.demands.proofs.Numbers.{WriteNumber, write-numbers, JudgeNumber, judge-numbers, table-numbers, look-numbers, tell-numbers, RowNumber, row-start-numbers, row-ask-numbers, row-tell-numbers}
+use Rattle.demands.proofs.Numbers.{WriteNumber, write-numbers, JudgeNumber, judge-numbers, table-numbers, look-numbers, TellNumber, tell-numbers, RowNumber, row-start-numbers, row-ask-numbers, RowTellNumber, row-tell-numbers}
 use Rattle.demands.proofs.Answers.{by-set, by-written, by-judged, by-compared, one-of, by-built, one-size, by-checked, by-started, by-asked, by-told}
 
 -- Reading a set.
@@ -109,8 +109,8 @@ pub ask-refuses : (b : List ℕ) (g : Guard) (r : Asked) → AskedAs b g r → R
 ask-refuses b g r asked = by-asked (from-to 10 12) (lookRows b (g .state)) (r .answer) (look-numbers b (g .state)) (asked .refusal)
 
 module _ (b : List ℕ) (g : Guard) (byte : ℕ) (r : Told) (told : ToldAs b g byte r) where
-  pub tell-refuses : Refuses tell.Refused (from-to 10 13) (first (tellRows b g byte)) (r .answer)
-  tell-refuses = by-told (from-to 10 13) (tellRows b g byte) (r .answer) (tell-numbers b g byte) (told .refusal)
+  pub tell-refuses : Refuses tell.Refused TellNumber (first (tellRows b g byte)) (r .answer)
+  tell-refuses = by-told TellNumber (tellRows b g byte) (r .answer) (tell-numbers b g byte) (told .refusal)
 
   pub refused-tell-leaves-guard : (n v : ℕ) → r .answer ≡ tell.Refused n v → r .guard ≡ g
   refused-tell-leaves-guard n v e = told .guard ∙ ap (λ t. toldWhen t (machineOf b) g (outcome byte)) (tell-refuses .exactly n v .0 e)
@@ -128,8 +128,8 @@ module _ (r : List Guard) (job : ℕ) (b : List ℕ) where
   row-ask-refuses a asked = by-asked RowNumber (rowAskRows r job b) a (row-ask-numbers r job b) (asked .refusal)
 
   module _ (byte : ℕ) (a : TellAnswer) (r′ : List Guard) (told : RowToldAs r job b byte a r′) where
-    pub row-tell-refuses : Refuses tell.Refused (from-to 10 14) (first (rowTellRows r job b byte)) a
-    row-tell-refuses = by-told (from-to 10 14) (rowTellRows r job b byte) a (row-tell-numbers r job b byte) (told .refusal)
+    pub row-tell-refuses : Refuses tell.Refused RowTellNumber (first (rowTellRows r job b byte)) a
+    row-tell-refuses = by-told RowTellNumber (rowTellRows r job b byte) a (row-tell-numbers r job b byte) (told .refusal)
 
     pub refused-row-tell-leaves-row : (n v : ℕ) → a ≡ tell.Refused n v → r′ ≡ r
     refused-row-tell-leaves-row n v e = refused-tell-leaves-row r job b byte (subst (λ z. RowToldAs r job b byte z r′) e told)

@@ -5,16 +5,19 @@ use mathlib.Core.Logic.{_↔_}
 use mathlib.Core.Option.{some}
 use mathlib.Core.Bool.{Bool, true, false}
 use mathlib.Core.List.{List, [], _∷_, _++_}
-use Prim.Native.Nat.{ℕ, _-_, _≤_, _<_}
+use Prim.Native.Nat.{ℕ, _+_, _-_, _≤_, _<_}
 use native.Mathlib.Omega.{arith}
 use lib.IntN.{ℤ, pos, _+ℤ_}
 use lib.ListN.{length, replicate}
+use lib.ListN.{set as set-guard}
+use lib.Seq.{set-getD}
 use Rattle.layout.specs.Refusal.{Row, Tested, passed, refused, first}
 use Rattle.layout.proofs.Rows.{passed-not-refused, both-passed as all-passed}
 use Rattle.patterns.specs.Outcome.{outcome, outcomes}
 use Rattle.machines.specs.Machine.{walk, Can}
 use Rattle.meaning.specs.declared.LimitSet.{LimitSet}
 use Rattle.meaning.specs.Longest.{longest}
+use Rattle.meaning.specs.Window.{recent}
 use Rattle.meaning.specs.Limit.{width}
 use Rattle.meaning.specs.Sets.{SetAllowed, KeptBy, ruleAt}
 use Rattle.meaning.specs.Broken.{LostFrom}
@@ -45,15 +48,19 @@ use Rattle.guard.specs.declared.Told.{Told}
 use Rattle.guard.specs.declared.AskAnswer.{AskAnswer}
 use Rattle.guard.specs.declared.AskAnswer.the-variants as ask
 use Rattle.guard.specs.declared.StartAnswer.the-variants.{Started}
-use Rattle.guard.specs.Guard.{StartedAs, AskedAs, tellRows, toldWhen, ToldAs}
+use Rattle.guard.specs.Guard.{mostTold, standing, fresh, StartedAs, AskedAs, tellRows, toldWhen, ToldAs}
 use Rattle.guard.specs.Told.{toldAll, heard}
 use Rattle.guard.specs.Row.{guardAt, RowStartedAs, RowAskedAs}
 use Rattle.guard.specs.Runs.{RowCall, RowRun, callsOf, OnTable, bytesTold}
+use Rattle.guard.proofs.Walked.{told-then}
 use Rattle.guard.proofs.Alone.{own-ask, started-job}
+use Rattle.carry.specs.Bytes.{carried, sizeOf}
 use Rattle.demands.specs.TableOf.{TableOf}
 use Rattle.demands.specs.Guarding.{ByKept}
+use Rattle.demands.specs.Carrying.{Changed, Event, tells, Through, toldIn}
 use Rattle.demands.proofs.Tables.{made-walks-kept}
-use Rattle.demands.proofs.Guarded.{answers-by-meaning, heeded-kept, kept-not-lost as guard-not-lost, hits-bring-fresh, lost-state}
+use Rattle.demands.proofs.Guarded.{answers-by-meaning, heeded-kept, kept-not-lost as guard-not-lost, counts-heard, holds-recent, hits-bring-to-0, lost-state}
+use Rattle.demands.proofs.Through.{change-gives-back, change-can-be-had, through-told, through-cut, events-cut}
 use Rattle.demands.proofs.Answers.{both-accepted}
 
 -- A verdict says kept exactly when the rows before it are passed and the set keeps the outcomes, and lost, with the job, the limit and the first job of the window, exactly as that is meant.
@@ -151,37 +158,76 @@ module _ (a b : List ℕ) (r : Compared) (compared : ComparedAs longest a b r) w
 pub table-walks-kept : (set b : List ℕ) → TableOf set b → (p : List Bool) → Can (machineOf b) 0 p ↔ KeptBy (setOf set) p
 table-walks-kept = made-walks-kept
 
--- A guard that start gave on that table, told any bytes, refused ones too. (An ask gives the guard back unchanged, so asks may stand between tells: `AskedAs`.)
-module _ (set b : List ℕ) (t : TableOf set b) (s : start.Started) (started : StartedAs b s) (told : List ℕ) where
-  abbrev g : Guard
-  g = toldAll b (s .guard) told
+-- A guard that start gave on that table, told any bytes, refused ones too, and through changes of the battery, any number of them and anywhere: "outcomes so far" are those told before a change and after it. (An ask gives the guard back unchanged, so asks may stand between: `AskedAs`.)
+module _ (set b : List ℕ) (t : TableOf set b) (s : start.Started) (started : StartedAs b s) (events : List Event) (g : Guard) (run : Through set b (s .guard) events g) where
+  abbrev told : List ℕ
+  told = toldIn events
+
+  from-fresh : Through set b fresh events g
+  from-fresh = subst (λ z. Through set b z events g) (started .guard) run
+
+  is-told : g ≡ toldAll b fresh told
+  is-told = through-told set b t events g from-fresh
+
+  -- It is the guard that was told the same and never switched off.
+  pub as-never-switched-off : g ≡ toldAll b (s .guard) told
+  as-never-switched-off = is-told ∙ ap (λ z. toldAll b z told) (sym (started .guard))
+
+  -- One change more gives back the guard that was written, field for field; and with room for the record there is one.
+  pub change-gives-same : (r : start.Started) → Changed set b g r → r ≡ record { answer = Started; guard = g }
+  change-gives-same = rw is-told (change-gives-back set b t told)
+
+  pub change-is-possible : (out : List ℕ) → sizeOf carried set ≤ length out → Changed set b g (record { answer = Started; guard = g })
+  change-is-possible = rw is-told (change-can-be-had set b t told)
 
   -- It says panic exactly when the outcomes heard are kept and one more miss would make them not kept; normal where they are kept then too, lost where they aren't kept.
   pub guard-answers : (r : Asked) → AskedAs b g r → ByKept (setOf set) (heard told) (r .answer)
-  guard-answers r asked = answers-by-meaning set b t told r (rw (started .guard) at asked)
+  guard-answers r asked = answers-by-meaning set b t told r (subst (λ z. AskedAs b z r) is-told asked)
 
   -- While every panic job is met, no limit is broken: if wherever ask said panic the next outcome told was a hit, the outcomes heard are kept and the guard isn't lost. (A byte that is refused isn't an outcome told, and isn't a miss.)
-  pub met-panics-keep : ((before after : List ℕ) (byte : ℕ) (r : Asked) → told ≡ before ++ (byte ∷ after) → AskedAs b (toldAll b (s .guard) before) r → r .answer ≡ ask.Panic → outcome byte ≡ true)
+  pub met-panics-keep : ((before after : List Event) (byte : ℕ) (h : Guard) (r : Asked) → events ≡ before ++ (tells byte ∷ after) → Through set b (s .guard) before h → AskedAs b h r → r .answer ≡ ask.Panic → outcome byte ≡ true)
       → KeptBy (setOf set) (heard told) × (g .lost ≡ false)
-  met-panics-keep = rw (started .guard) (λ met. let k = heeded-kept set b t told met in (k, guard-not-lost set b t told k))
-
-  -- Eleven hits bring a guard that isn't lost back to what start gave.
-  pub hits-bring-back : g .lost ≡ false → toldAll b (s .guard) (told ++ replicate (longest - 1) 1) ≡ s .guard
-  hits-bring-back = rw (started .guard) (hits-bring-fresh set b t told)
-
-  -- Where the outcomes heard are q, a miss that loses them and any others r, the guard is lost, in the state where q leads.
-  pub lost-keeps-state : (q r : List Bool) → heard told ≡ q ++ (false ∷ r) → KeptBy (setOf set) q → (KeptBy (setOf set) (q ++ false ∷ []) → ⊥)
-      → (g .lost ≡ true) × (walk (machineOf b) 0 q ≡ some (g .state))
-  lost-keeps-state = rw (started .guard) (lost-state set b t told)
-
--- Lost stays lost, on every table: a tell and an ask give a lost guard back; only start gives one that isn't.
-module _ (b : List ℕ) where
-  pub told-lost-guard : (g : Guard) (byte : ℕ) (r : Told) → ToldAs b g byte r → g .lost ≡ true → r .guard ≡ g
-  told-lost-guard g byte r told e = told .guard ∙ go (first (tellRows b g byte))
+  met-panics-keep met =
+      let k = heeded-kept set b t told in-bytes in
+      (k, ap (λ z. z .lost) is-told ∙ guard-not-lost set b t told k)
     where
-      go : (t : Tested) → toldWhen t (machineOf b) g (outcome byte) ≡ g
-      go passed = rw e
-      go (refused n v) = refl
+      in-bytes : (before after : List ℕ) (byte : ℕ) (r : Asked) → told ≡ before ++ (byte ∷ after) → AskedAs b (toldAll b fresh before) r → r .answer ≡ ask.Panic → outcome byte ≡ true
+      in-bytes before after byte r e asked panic =
+          let (es, fs, p, q) = events-cut events before after byte e in
+          let (h, cut) = through-cut set b (s .guard) es (tells byte ∷ fs) g (subst (λ z. Through set b (s .guard) z g) p run) in
+          let stood : h ≡ toldAll b fresh before = through-told set b t es h (subst (λ z. Through set b z es h) (started .guard) cut) ∙ ap (toldAll b fresh) q in
+          met es fs byte h r p cut (subst (λ z. AskedAs b z r) (sym stood) asked) panic
+
+  -- It counts the outcomes heard, lost or not, and holds the last of them, one job less than the longest window, unless it is lost.
+  pub guard-counts : g .count ≡ length (heard told)
+  guard-counts = ap (λ z. z .count) is-told ∙ counts-heard set b t told
+
+  pub guard-holds : g .lost ≡ false → g .outcomes ≡ recent (heard told) (longest - 1)
+  guard-holds = rw is-told (holds-recent set b t told)
+
+  -- As many hits bring a guard that isn't lost back to state 0, holding hits alone, as start gave it but for the count.
+  pub hits-bring-back : g .lost ≡ false → g .count + (longest - 1) ≤ mostTold → toldAll b g (replicate (longest - 1) 1) ≡ standing 0 (replicate (longest - 1) true) (g .count + (longest - 1))
+  hits-bring-back e room =
+      let h = longest - 1 in
+      let same = ap (λ z. z .count) is-told in
+      ap (λ z. toldAll b z (replicate h 1)) is-told
+      ∙ sym (told-then b fresh told (replicate h 1))
+      ∙ hits-bring-to-0 set b t told (sym (ap (λ z. z .lost) is-told) ∙ e) (subst (λ n. n + h ≤ mostTold) same room)
+      ∙ ap (λ n. standing 0 (replicate h true) (n + h)) (sym same)
+
+  -- Where the outcomes heard are q, a miss that loses them and any others r, the guard is lost, in the state where q leads, and holds the last of q.
+  pub lost-keeps-state : (q r : List Bool) → heard told ≡ q ++ (false ∷ r) → KeptBy (setOf set) q → (KeptBy (setOf set) (q ++ false ∷ []) → ⊥)
+      → (g .lost ≡ true) × (walk (machineOf b) 0 q ≡ some (g .state)) × (g .outcomes ≡ recent q (longest - 1))
+  lost-keeps-state = rw is-told (lost-state set b t told)
+
+-- Lost stays lost, on every table: a tell leaves it lost, in its state and with its outcomes, an ask gives it back; only start gives one that isn't, and a record that says so.
+module _ (b : List ℕ) where
+  pub told-lost-guard : (g : Guard) (byte : ℕ) (r : Told) → ToldAs b g byte r → g .lost ≡ true → (r .guard .lost ≡ true) × (r .guard .state ≡ g .state) × (r .guard .outcomes ≡ g .outcomes)
+  told-lost-guard g byte r told e = subst (λ z. (z .lost ≡ true) × (z .state ≡ g .state) × (z .outcomes ≡ g .outcomes)) (sym (told .guard)) (go (first (tellRows b g byte)))
+    where
+      go : (t : Tested) → let z = toldWhen t (machineOf b) g (outcome byte) in (z .lost ≡ true) × (z .state ≡ g .state) × (z .outcomes ≡ g .outcomes)
+      go passed = rw e (refl, refl, refl)
+      go (refused n v) = (e, refl, refl)
 
   pub asked-guard : (g : Guard) (r : Asked) → AskedAs b g r → r .guard ≡ g
   asked-guard g r asked = asked .guard
@@ -191,11 +237,19 @@ module _ (b : List ℕ) where
 
 -- The row: a job that was started on that table, any calls on the row after it, of that job only asks and tells on that table, and then an ask. It hears what a single guard hears.
 module _ (set b : List ℕ) (t : TableOf set b) (row started last : List Guard) (job : ℕ) (calls : List RowCall)
-    (start : RowStartedAs row job b Started started) (run : RowRun started calls last) (on : OnTable b (callsOf job calls)) where
+    (begin : RowStartedAs row job b Started started) (run : RowRun started calls last) (on : OnTable b (callsOf job calls)) where
   pub row-answers : (a : AskAnswer) → RowAskedAs last job b a → ByKept (setOf set) (heard (bytesTold (callsOf job calls))) a
   row-answers a asked =
       let told = bytesTold (callsOf job calls) in
-      let (inside, own) = started-job b row started last job calls start run on in
+      let (inside, own) = started-job b row started last job calls begin run on in
       let g = guardAt last job in
       answers-by-meaning set b t told (record { answer = a; guard = g })
       (subst (λ z. AskedAs b z (record { answer = a; guard = g })) own (own-ask job last inside b a asked))
+
+  -- A change of one job's guard gives that guard back, so a row whose guards are carried over one by one is the row that it was.
+  pub row-change-gives-same : (r : start.Started) → Changed set b (guardAt last job) r → (r .answer ≡ Started) × (set-guard last job (r .guard) ≡ last)
+  row-change-gives-same r changed =
+      let told = bytesTold (callsOf job calls) in
+      let own = started-job b row started last job calls begin run on .1 in
+      let same = change-gives-back set b t told r (subst (λ z. Changed set b z r) own changed) in
+      (ap (λ z. z .answer) same, ap (λ z. set-guard last job (z .guard)) same ∙ ap (set-guard last job) (sym own) ∙ set-getD last job fresh)

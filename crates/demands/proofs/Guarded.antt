@@ -1,31 +1,26 @@
 -- A guard on the table built from a set: what it answers, where it stands, and when it is lost, by the patterns that the set keeps. Assumes nothing.
-use mathlib.Core.Path.{_≡_, refl, sym, ap, _∙_, subst}
-use mathlib.Core.Logic.{_↔_, Iff·trans, Iff·symm}
+use mathlib.Core.Path.{_≡_, refl, sym, ap, ap₂, _∙_, subst}
+use mathlib.Core.Logic.{_↔_, ⊎-elim}
 use mathlib.Core.Option.{Option, none, some}
-use mathlib.Core.Bool.{Bool, true, false, cond, true≢false}
+use mathlib.Core.Bool.{Bool, true, false, true≢false}
 use mathlib.Core.List.{List, [], _∷_, _++_, append-assoc, append-nil}
-use Prim.Native.Nat.{ℕ, zero, suc, _-_, _^_, _<_}
+use Prim.Native.Nat.{ℕ, zero, suc, _+_, _-_, _≤_, _<_}
+use native.Mathlib.Nat.{zero-add}
 use native.Mathlib.Numerals.{add-one}
-use native.Mathlib.Omega.{arith}
-use lib.Dec.{ltb}
-use lib.ListN.{replicate, replicate-append-replicate}
+use lib.ListN.{length, replicate, length-replicate, replicate-append-replicate}
 use Rattle.layout.specs.Refusal.{passed, first}
 use Rattle.patterns.specs.Outcome.{outcome}
-use Rattle.patterns.specs.Number.{number}
-use Rattle.patterns.proofs.Numbers.{number-hits}
 use Rattle.machines.specs.Machine.{Machine, walk, Can}
-use Rattle.machines.proofs.Walk.{walk-below, walk-snoc}
-use Rattle.machines.proofs.Meeting.{meeting-same}
+use Rattle.machines.proofs.Walk.{walk-after, walk-snoc}
 use Rattle.meaning.specs.declared.LimitSet.{LimitSet}
 use Rattle.meaning.specs.Longest.{longest}
 use Rattle.meaning.specs.Window.{recent}
-use Rattle.meaning.specs.Sets.{KeptBy, Panic}
+use Rattle.meaning.specs.Sets.{KeptBy}
 use Rattle.meaning.proofs.MissMore.{recent-snoc}
+use Rattle.meaning.proofs.Recent.{recent-last}
 use Rattle.meaning.proofs.SetLaws.{kept-by-empty, kept-by-hit}
 use Rattle.meaning.proofs.Search.{kept-by-dec}
-use Rattle.history.specs.History.{historyOf}
-use Rattle.history.specs.Machine.{historyMachine}
-use Rattle.history.proofs.Walked.{kept-walked, walked-state}
+use Rattle.history.proofs.Recent.{recent-leads, same-recent-leads}
 use Rattle.sets.specs.Bytes.{setOf}
 use Rattle.table.specs.Bytes.{stateCount, machineOf}
 use Rattle.table.specs.Rows.{lookRows}
@@ -33,26 +28,15 @@ use Rattle.table.proofs.Checked.{checked-looks}
 use Rattle.guard.specs.declared.Guard.{Guard}
 use Rattle.guard.specs.declared.Asked.{Asked}
 use Rattle.guard.specs.declared.AskAnswer.the-variants as ask
-use Rattle.guard.specs.Guard.{fresh, AskedAs}
+use Rattle.guard.specs.Guard.{mostTold, standing, fresh, AskedAs, latest}
 use Rattle.guard.specs.Told.{afterAll, toldAll, heard}
-use Rattle.guard.proofs.Walked.{told-walk, after-lost, lost-not-walked}
-use Rattle.guard.proofs.InTable.{told-all, never-leaves, answers-by-walk}
+use Rattle.guard.proofs.Latest.{latest-length, latest-whole}
+use Rattle.guard.proofs.Heard.{heard-none, heard-next, heard-hits}
+use Rattle.guard.proofs.Walked.{count-all, told-walk, after-lost, lost-not-walked, told-then, Led, led-from-start}
+use Rattle.guard.proofs.InTable.{told-heard, told-all, never-leaves, answers-by-walk}
 use Rattle.demands.specs.TableOf.{TableOf}
 use Rattle.demands.specs.Guarding.{ByKept}
 use Rattle.demands.proofs.Tables.{canonical-machine, made-allowed, made-canonical, made-checked, made-walk, made-walks-kept}
-
-pub heard-append : (a b : List ℕ) → heard (a ++ b) ≡ heard a ++ heard b
-heard-append [] b = refl
-heard-append (byte ∷ a) b = go (ltb 1 byte) (heard-append a b)
-  where
-    go : (t : Bool) → heard (a ++ b) ≡ heard a ++ heard b
-        → cond t (heard (a ++ b)) (outcome byte ∷ heard (a ++ b)) ≡ cond t (heard a) (outcome byte ∷ heard a) ++ heard b
-    go true ih = ih
-    go false ih = ap {B = List Bool} (λ z. outcome byte ∷ z) ih
-
-heard-hits : (k : ℕ) → heard (replicate k 1) ≡ replicate k true
-heard-hits zero = refl
-heard-hits (suc k) = ap {B = List Bool} (λ z. true ∷ z) (heard-hits k)
 
 -- the last outcomes after as many hits are these hits
 hits-recent : (p : List Bool) (k : ℕ) → recent (p ++ replicate k true) k ≡ replicate k true
@@ -104,7 +88,7 @@ module _ (set b : List ℕ) (t : TableOf set b) where
   pub kept-not-lost : (told : List ℕ) → KeptBy (setOf set) (heard told) → toldAll b fresh told .lost ≡ false
   kept-not-lost told k =
       let (s, e) = made-walks-kept set b t (heard told) .1 k in
-      ap (λ z. z .lost) (after-told told ∙ told-walk m 0 s (heard told) e)
+      ap (λ z. z .lost) (after-told told ∙ told-walk m 0 s (fresh .outcomes) 0 (heard told) e)
 
   not-lost-kept : (told : List ℕ) → toldAll b fresh told .lost ≡ false → KeptBy (setOf set) (heard told)
   not-lost-kept told e = go (kept-by-dec (setOf set) (heard told))
@@ -112,21 +96,21 @@ module _ (set b : List ℕ) (t : TableOf set b) where
       go : Dec (KeptBy (setOf set) (heard told)) → KeptBy (setOf set) (heard told)
       go (yes k) = k
       go (no n) =
-          let l = lost-not-walked m 0 (heard told) .1 (λ c. n (made-walks-kept set b t (heard told) .0 c)) in
+          let l = lost-not-walked m 0 (fresh .outcomes) 0 (heard told) .1 (λ c. n (made-walks-kept set b t (heard told) .0 c)) in
           absurd (true≢false (sym l ∙ sym (ap (λ z. z .lost) (after-told told)) ∙ e))
 
   -- if no miss was told where ask says panic, every outcome heard is kept
   module _ (told : List ℕ) (met : (before after : List ℕ) (byte : ℕ) (r : Asked) → told ≡ before ++ (byte ∷ after) → AskedAs b (toldAll b fresh before) r → r .answer ≡ ask.Panic → outcome byte ≡ true) where
     keeps-on : (before after : List ℕ) (byte : ℕ) → told ≡ before ++ (byte ∷ after) → KeptBy (setOf set) (heard before) → KeptBy (setOf set) (heard (before ++ byte ∷ []))
-    keeps-on before after byte e k = subst (KeptBy (setOf set)) (sym (heard-append before (byte ∷ []))) (go (ltb 1 byte) (outcome byte) refl)
+    keeps-on before after byte e k =
+        ⊎-elim (λ q. subst (KeptBy s) (sym q) k) (λ q. subst (KeptBy s) (sym q) (go (outcome byte) refl)) (heard-next 0 before byte)
       where
         s : LimitSet
         s = setOf set
 
-        go : (bad o : Bool) → outcome byte ≡ o → KeptBy s (heard before ++ cond bad [] (o ∷ []))
-        go true o f = subst (KeptBy s) (sym (append-nil (heard before))) k
-        go false true f = kept-by-hit s (heard before) k
-        go false false f = by (kept-by-dec s (heard before ++ false ∷ []))
+        go : (o : Bool) → outcome byte ≡ o → KeptBy s (heard before ++ o ∷ [])
+        go true f = kept-by-hit s (heard before) k
+        go false f = by (kept-by-dec s (heard before ++ false ∷ []))
           where
             by : Dec (KeptBy s (heard before ++ false ∷ [])) → KeptBy s (heard before ++ false ∷ [])
             by (yes y) = y
@@ -136,7 +120,7 @@ module _ (set b : List ℕ) (t : TableOf set b) where
                 absurd (true≢false (sym (met before after byte r e asked p) ∙ f))
 
     pub heeded-kept : KeptBy (setOf set) (heard told)
-    heeded-kept = go [] told (kept-by-empty (setOf set) longest (made-allowed set b t)) refl
+    heeded-kept = go [] told (subst (KeptBy (setOf set)) (sym (heard-none 0)) (kept-by-empty (setOf set) longest (made-allowed set b t))) refl
       where
         go : (before rest : List ℕ) → KeptBy (setOf set) (heard before) → told ≡ before ++ rest → KeptBy (setOf set) (heard told)
         go before [] k e = subst (λ z. KeptBy (setOf set) (heard z)) (sym (e ∙ append-nil before)) k
@@ -146,37 +130,73 @@ module _ (set b : List ℕ) (t : TableOf set b) where
   hits-kept p zero h = subst (KeptBy (setOf set)) (sym (append-nil p)) h
   hits-kept p (suc k) h = subst (KeptBy (setOf set)) (append-assoc p (true ∷ []) (replicate k true)) (hits-kept (p ++ true ∷ []) k (kept-by-hit (setOf set) p h))
 
+  -- two kept patterns with the same last outcomes lead to one state, and the last outcomes of a kept pattern lead where it leads
+  pub recent-leads-there : (p : List Bool) → KeptBy (setOf set) p → walk m 0 (recent p (longest - 1)) ≡ walk m 0 p
+  recent-leads-there p k =
+      made-walk set b t (recent p (longest - 1))
+      ∙ recent-leads (setOf set) (longest - 1) (made-allowed set b t) (canonical-machine set b t) (made-canonical set b t) p k
+      ∙ sym (made-walk set b t p)
+
   hits-lead-back : (p : List Bool) → KeptBy (setOf set) p → walk m 0 (p ++ replicate (longest - 1) true) ≡ some 0
-  unfolding historyOf
   hits-lead-back p k =
-      let n = canonical-machine set b t in
-      let c = made-canonical set b t in
       let ok = made-allowed set b t in
-      let H = historyMachine (setOf set) (longest - 1) in
       let q = p ++ replicate (longest - 1) true in
-      let kq = hits-kept p (longest - 1) k in
-      let (s, e) = c .exact q .1 kq in
-      let f : historyOf (longest - 1) q ≡ 2 ^ (longest - 1) - 1 = omega (arith, ap number (hits-recent p (longest - 1)), number-hits (longest - 1)) in
-      let walked : walk H (H .start) q ≡ some (H .start) = walked-state (setOf set) (longest - 1) ok q kq ∙ ap {B = Option ℕ} some f in
-      let same = meeting-same n H (λ r. Iff·trans (c .exact r) (Iff·symm (kept-walked (setOf set) (longest - 1) ok r))) s (n .start) (H .start) q [] e refl walked refl in
-      let z : s ≡ 0 = c .differ s (n .start) (walk-below n (c .well-made) (n .start) s q (c .well-made .start-below) e) (c .well-made .start-below) same ∙ c .starts-at-0 in
-      made-walk set b t q ∙ e ∙ ap {B = Option ℕ} some z
+      let none : recent [] (longest - 1) ≡ replicate (longest - 1) true = recent-last [] (longest - 1) ∙ append-nil (replicate (longest - 1) true) in
+      made-walk set b t q
+      ∙ same-recent-leads (setOf set) (longest - 1) ok (canonical-machine set b t) (made-canonical set b t) q [] (hits-kept p (longest - 1) k) (kept-by-empty (setOf set) longest ok) (hits-recent p (longest - 1) ∙ sym none)
+      ∙ ap {B = Option ℕ} some (made-canonical set b t .starts-at-0)
 
-  pub hits-bring-fresh : (told : List ℕ) → toldAll b fresh told .lost ≡ false → toldAll b fresh (told ++ replicate (longest - 1) 1) ≡ fresh
-  hits-bring-fresh told e =
-      let q = heard told ++ replicate (longest - 1) true in
-      after-told (told ++ replicate (longest - 1) 1)
-      ∙ ap (afterAll m fresh) (heard-append told (replicate (longest - 1) 1) ∙ ap (λ z. heard told ++ z) (heard-hits (longest - 1)))
-      ∙ told-walk m 0 0 q (hits-lead-back (heard told) (not-lost-kept told e))
+  -- where a guard that isn't lost stands
+  module _ (told : List ℕ) (e : toldAll b fresh told .lost ≡ false) where
+    pub stands-at : (s : ℕ) × (walk m 0 (heard told) ≡ some s) × (toldAll b fresh told ≡ standing s (latest (fresh .outcomes) (heard told)) (0 + length (heard told)))
+    stands-at =
+        let (s, w) = made-walks-kept set b t (heard told) .1 (not-lost-kept told e) in
+        (s, w, after-told told ∙ told-walk m 0 s (fresh .outcomes) 0 (heard told) w)
 
-  -- a guard that lost keeps the state from before the losing miss, whatever it is told after it
+    pub holds-recent : toldAll b fresh told .outcomes ≡ recent (heard told) (longest - 1)
+    holds-recent = ap (λ z. z .outcomes) (stands-at .2) ∙ sym (recent-last (heard told) (longest - 1))
+
+    pub hits-bring-to-0 : toldAll b fresh told .count + (longest - 1) ≤ mostTold → toldAll b fresh (told ++ replicate (longest - 1) 1) ≡ standing 0 (replicate (longest - 1) true) (toldAll b fresh told .count + (longest - 1))
+    hits-bring-to-0 room =
+        let h = longest - 1 in
+        let p = heard told in
+        let g = toldAll b fresh told in
+        let hits = replicate h true in
+        let (s, w, at) = stands-at in
+        let os = latest (fresh .outcomes) p in
+        let many : length hits ≡ length os = length-replicate h true ∙ sym (latest-length (fresh .outcomes) p) in
+        let below : g .state < stateCount b = subst (λ z. z .state < stateCount b) (sym (after-told told)) (never-leaves b (made-checked set b t) p) in
+        told-then b fresh told (replicate h 1)
+        ∙ told-heard b (made-checked set b t) g (replicate h 1) below
+        ∙ ap (afterAll m g) (heard-hits (g .count) h room)
+        ∙ ap (λ z. afterAll m z hits) at
+        ∙ told-walk m s 0 os (0 + length p) hits (sym (walk-after m 0 s p hits w) ∙ hits-lead-back p (not-lost-kept told e))
+        ∙ ap₂ (standing 0) (latest-whole os hits many) (ap₂ (λ a c. a + c) (sym (ap (λ z. z .count) at)) (length-replicate h true))
+
+  -- the count is of the outcomes heard, lost or not
+  pub counts-heard : (told : List ℕ) → toldAll b fresh told .count ≡ length (heard told)
+  counts-heard told = ap (λ z. z .count) (after-told told) ∙ count-all m fresh (heard told) ∙ zero-add (length (heard told))
+
+  -- what a guard holds leads where it stands, lost or not
+  pub outcomes-lead : (told : List ℕ) → walk m 0 (toldAll b fresh told .outcomes) ≡ some (toldAll b fresh told .state)
+  outcomes-lead told =
+      let led = subst (Led m 0 (fresh .outcomes)) (sym (after-told told)) (led-from-start m 0 (fresh .outcomes) (heard told) 0) in
+      let q = led .by in
+      ap (walk m 0) (led .holds ∙ sym (recent-last q (longest - 1))) ∙ recent-leads-there q (made-walks-kept set b t q .0 (toldAll b fresh told .state, led .leads)) ∙ led .leads
+
+  pub outcomes-many : (told : List ℕ) → length (toldAll b fresh told .outcomes) ≡ longest - 1
+  outcomes-many told =
+      let led = subst (Led m 0 (fresh .outcomes)) (sym (after-told told)) (led-from-start m 0 (fresh .outcomes) (heard told) 0) in
+      ap length (led .holds) ∙ latest-length (fresh .outcomes) (led .by)
+
+  -- a guard that lost keeps the state and the outcomes from before the losing miss, whatever it is told after it
   pub lost-state : (told : List ℕ) (q r : List Bool) → heard told ≡ q ++ (false ∷ r) → KeptBy (setOf set) q → (KeptBy (setOf set) (q ++ false ∷ []) → ⊥)
-      → (toldAll b fresh told .lost ≡ true) × (walk m 0 q ≡ some (toldAll b fresh told .state))
+      → (toldAll b fresh told .lost ≡ true) × (walk m 0 q ≡ some (toldAll b fresh told .state)) × (toldAll b fresh told .outcomes ≡ recent q (longest - 1))
   lost-state told q r e k n =
       let (s, w) = made-walks-kept set b t q .1 k in
       let blocked = go s (m .next s false) refl w in
-      let g = after-told told ∙ ap (afterAll m fresh) e ∙ after-lost m 0 s q r w blocked in
-      (ap (λ z. z .lost) g, w ∙ ap {B = Option ℕ} some (sym (ap (λ z. z .state) g)))
+      let g = after-told told ∙ ap (afterAll m fresh) e ∙ after-lost m 0 s (fresh .outcomes) 0 q r w blocked in
+      (ap (λ z. z .lost) g, w ∙ ap {B = Option ℕ} some (sym (ap (λ z. z .state) g)), ap (λ z. z .outcomes) g ∙ sym (recent-last q (longest - 1)))
     where
       go : (s : ℕ) (x : Option ℕ) → m .next s false ≡ x → walk m 0 q ≡ some s → m .next s false ≡ none
       go s none f w = f

@@ -3,6 +3,7 @@ pub mod Demand2
 pub mod Demand3
 pub mod Boundary
 pub mod NightLog
+pub mod Carried
 pub mod WorkedRows
 pub mod Tables
 pub mod Room
@@ -10,6 +11,8 @@ pub mod Refusing
 pub mod Numbers
 pub mod Answers
 pub mod Guarded
+pub mod Through
+pub mod FallsShort
 pub mod FlatAnswers
 pub mod FlatComparison
 pub mod SmallMachines

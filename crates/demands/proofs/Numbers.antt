@@ -1,12 +1,12 @@
--- By which numbers writing a set, the verdict, a night log, a table, a guard's calls and a row's can be refused. Assumes nothing.
+-- By which numbers writing a set, the verdict, a night log, a table, a guard's calls, a row's and a carry-over record can be refused. Assumes nothing.
 use mathlib.Core.Path.{_≡_, refl}
-use mathlib.Core.Logic.{_⊎_, inl, inr}
-use mathlib.Core.List.{List, [], _∷_}
-use Prim.Native.Nat.{ℕ, zero, suc}
+use mathlib.Core.Logic.{_⊎_, ⊎-elim, inl, inr}
+use mathlib.Core.List.{List, [], _∷_, _++_}
+use Prim.Native.Nat.{ℕ, zero, suc, _≤_}
 use native.Mathlib.Omega.{arith}
 use lib.Dec.{leb, ltb}
 use lib.ListN.{length}
-use Rattle.layout.specs.Refusal.{row}
+use Rattle.layout.specs.Refusal.{Row, row}
 use Rattle.layout.specs.Write.{roomRow}
 use Rattle.layout.proofs.Rows.{Numbers, from-to, numbers-append, numbers-among}
 use Rattle.patterns.specs.Outcome.{outcomeRows}
@@ -21,8 +21,10 @@ use Rattle.night_log.specs.Judge.{logJudgeRows}
 use Rattle.table.specs.Bytes.{stateCount}
 use Rattle.table.specs.Rows.{countRows, entryRows, entriesRows, tableRows, lookRows}
 use Rattle.guard.specs.declared.Guard.{Guard}
-use Rattle.guard.specs.Guard.{tellRows}
+use Rattle.guard.specs.Guard.{mostTold, tellRows}
 use Rattle.guard.specs.Row.{guardAt, rowStartRows, rowAskRows, rowTellRows}
+use Rattle.carry.specs.Bytes.{sizeOf as recordSize, setIn, outcomeBytes, lostByte}
+use Rattle.carry.specs.Rows.{writeRows as recordWriteRows, recordRows, ledTo, leadsNowhere, readRows}
 
 -- writing a set: 3, 5, 6, 7, 9
 abbrev pub WriteNumber : ℕ → Type 0
@@ -86,14 +88,25 @@ table-numbers b = numbers-append (from-to 10 12) (countRows b) (entriesRows b 0 
 pub look-numbers : (b : List ℕ) (s : ℕ) → Numbers (from-to 10 12) (lookRows b s)
 look-numbers b s = numbers-append (from-to 10 12) (countRows b) (row 12 (leb (stateCount b) s) 0 ∷ entryRows b s) (count-numbers b) ((omega arith, omega arith), ((omega arith, omega arith), ((omega arith, omega arith), tt)))
 
-pub tell-numbers : (b : List ℕ) (g : Guard) (byte : ℕ) → Numbers (from-to 10 13) (tellRows b g byte)
-tell-numbers b g byte =
-    numbers-append (from-to 10 13) (lookRows b (g .state)) (row 13 (ltb 1 byte) 0 ∷ [])
-    (numbers-among (from-to 10 12) (from-to 10 13) (λ n (l, h). (omega arith, omega arith)) (lookRows b (g .state)) (look-numbers b (g .state))) ((omega arith, omega arith), tt)
+-- a tell: 10 to 12, 13, 17
+abbrev pub TellNumber : ℕ → Type 0
+TellNumber n = from-to 10 13 n ⊎ (n ≡ 17)
 
--- a row's start and ask: 14, 10 to 12, never 13; its tell 10 to 14
+pub tell-numbers : (b : List ℕ) (g : Guard) (byte : ℕ) → Numbers TellNumber (tellRows b g byte)
+tell-numbers b g byte =
+    numbers-append TellNumber (lookRows b (g .state)) (row 13 (ltb 1 byte) 0 ∷ row 17 (leb mostTold (g .count)) 0 ∷ [])
+    (numbers-among (from-to 10 12) TellNumber (λ n (l, h). inl (omega arith, omega arith)) (lookRows b (g .state)) (look-numbers b (g .state)))
+    (inl (omega arith, omega arith), (inr refl, tt))
+
+pub tell-positive : (n : ℕ) → TellNumber n → 1 ≤ n
+tell-positive n = ⊎-elim (λ (l, h). omega arith) (λ e. omega arith)
+
+-- a row's start and ask: 14, 10 to 12, never 13; its tell 10 to 14 and 17
 abbrev pub RowNumber : ℕ → Type 0
 RowNumber n = (n ≡ 14) ⊎ from-to 10 12 n
+
+abbrev pub RowTellNumber : ℕ → Type 0
+RowTellNumber n = from-to 10 14 n ⊎ (n ≡ 17)
 
 module _ (r : List Guard) (job : ℕ) (b : List ℕ) where
   pub row-start-numbers : Numbers RowNumber (rowStartRows r job b)
@@ -102,6 +115,63 @@ module _ (r : List Guard) (job : ℕ) (b : List ℕ) where
   pub row-ask-numbers : Numbers RowNumber (rowAskRows r job b)
   row-ask-numbers = (inl refl, numbers-among (from-to 10 12) RowNumber (λ n h. inr h) (lookRows b (guardAt r job .state)) (look-numbers b (guardAt r job .state)))
 
-  pub row-tell-numbers : (byte : ℕ) → Numbers (from-to 10 14) (rowTellRows r job b byte)
-  row-tell-numbers byte =
-      ((omega arith, omega arith), numbers-among (from-to 10 13) (from-to 10 14) (λ n (l, h). (omega arith, omega arith)) (tellRows b (guardAt r job) byte) (tell-numbers b (guardAt r job) byte))
+  pub row-tell-numbers : (byte : ℕ) → Numbers RowTellNumber (rowTellRows r job b byte)
+  row-tell-numbers byte = (
+    inl (omega arith, omega arith),
+    numbers-among TellNumber RowTellNumber (λ n. ⊎-elim (λ (l, h). inl (omega arith, omega arith)) (λ e. inr e)) (tellRows b (guardAt r job) byte) (tell-numbers b (guardAt r job) byte),
+  )
+
+pub row-tell-positive : (n : ℕ) → RowTellNumber n → 1 ≤ n
+row-tell-positive n = ⊎-elim (λ (l, h). omega arith) (λ e. omega arith)
+
+-- a carry-over record: writing 1 to 7 and 9, reading back 18, 1 to 7, 13, 19, 10 to 12, 25
+abbrev pub CarryWriteNumber : ℕ → Type 0
+CarryWriteNumber n = from-to 1 7 n ⊎ (n ≡ 9)
+
+pub carry-write-numbers : (w h : ℕ) (set out : List ℕ) → Numbers CarryWriteNumber (recordWriteRows w h set out)
+carry-write-numbers w h set out =
+    numbers-append CarryWriteNumber (setRows w set) (roomRow out (recordSize h set) ∷ [])
+    (numbers-among (from-to 1 7) CarryWriteNumber (λ n l. inl l) (setRows w set) (set-numbers w set)) (inr refl, tt)
+
+pub carry-write-positive : (n : ℕ) → CarryWriteNumber n → 1 ≤ n
+carry-write-positive n = ⊎-elim (λ (l, h). omega arith) (λ e. omega arith)
+
+abbrev pub CarryReadNumber : ℕ → Type 0
+CarryReadNumber n = from-to 1 7 n ⊎ (from-to 10 13 n ⊎ (from-to 18 19 n ⊎ (n ≡ 25)))
+
+module _ (w h : ℕ) (r b : List ℕ) where
+  among : (Q : ℕ → Type 0) → ((n : ℕ) → Q n → CarryReadNumber n) → (rows : List Row) → Numbers Q rows → Numbers CarryReadNumber rows
+  among Q = numbers-among Q CarryReadNumber
+
+  by-18-19 : (n : ℕ) → from-to 18 19 n → CarryReadNumber n
+  by-18-19 n l = inr (inr (inl l))
+
+  by-10-13 : (n : ℕ) → from-to 10 13 n → CarryReadNumber n
+  by-10-13 n l = inr (inl l)
+
+  lost-numbers : Numbers CarryReadNumber (row 19 (ltb 1 (lostByte r)) 0 ∷ [])
+  lost-numbers = (by-18-19 19 (omega arith, omega arith), tt)
+
+  outcomes-numbers : Numbers CarryReadNumber (outcomeRows (outcomeBytes h r) 0 ++ row 19 (ltb 1 (lostByte r)) 0 ∷ [])
+  outcomes-numbers =
+      numbers-append CarryReadNumber (outcomeRows (outcomeBytes h r) 0) (row 19 (ltb 1 (lostByte r)) 0 ∷ [])
+      (among (λ n. n ≡ 13) (λ n e. by-10-13 n (omega arith, omega arith)) (outcomeRows (outcomeBytes h r) 0) (outcome-numbers (outcomeBytes h r) 0)) lost-numbers
+
+  record-numbers : Numbers CarryReadNumber (recordRows w h r)
+  record-numbers = (
+    by-18-19 18 (omega arith, omega arith),
+    (
+      by-18-19 18 (omega arith, omega arith),
+      numbers-append CarryReadNumber (setRows w (setIn h r)) (outcomeRows (outcomeBytes h r) 0 ++ row 19 (ltb 1 (lostByte r)) 0 ∷ [])
+          (among (from-to 1 7) (λ n l. inl l) (setRows w (setIn h r)) (set-numbers w (setIn h r))) outcomes-numbers,
+    ),
+  )
+
+  pub carry-read-numbers : Numbers CarryReadNumber (readRows w h r b)
+  carry-read-numbers =
+      numbers-append CarryReadNumber (recordRows w h r) (tableRows b ++ row 25 (leadsNowhere (ledTo h r b)) 0 ∷ []) record-numbers
+      (numbers-append CarryReadNumber (tableRows b) (row 25 (leadsNowhere (ledTo h r b)) 0 ∷ [])
+      (among (from-to 10 12) (λ n (l, g). by-10-13 n (omega arith, omega arith)) (tableRows b) (table-numbers b)) (inr (inr (inr refl)), tt))
+
+pub carry-read-positive : (n : ℕ) → CarryReadNumber n → 1 ≤ n
+carry-read-positive n = ⊎-elim (λ (l, h). omega arith) (⊎-elim (λ (l, h). omega arith) (⊎-elim (λ (l, h). omega arith) (λ e. omega arith)))

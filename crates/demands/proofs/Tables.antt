@@ -11,15 +11,19 @@ use Rattle.machines.proofs.Walk.{one-walk}
 use Rattle.meaning.specs.Longest.{longest}
 use Rattle.meaning.specs.Sets.{SetAllowed, KeptBy}
 use Rattle.sets.specs.Bytes.{setOf}
+use Rattle.sets.specs.Rows.{setRows}
 use Rattle.table.specs.Bytes.{machineOf, bytesOf}
 use Rattle.table.specs.Rows.{tableRows}
 use Rattle.table.proofs.Checked.{checked-well-made}
-use Rattle.builder.proofs.BuiltTables.{built-allowed, built-canonical, built-bytes, built-checked, built-one-table}
+use Rattle.builder.proofs.BuiltTables.{built-accepted, built-allowed, built-canonical, built-bytes, built-checked, built-one-table}
 use Rattle.demands.specs.TableOf.{TableOf}
 
 module _ (set b : List ℕ) (t : TableOf set b) where
   abbrev pub canonical-machine : Machine
   canonical-machine = t .built .0
+
+  pub made-accepted : first (setRows longest set) ≡ passed
+  made-accepted = built-accepted set (t .work) (t .work′) (t .table) (t .table′) (t .size) (t .built)
 
   pub made-allowed : SetAllowed longest (setOf set)
   made-allowed = built-allowed set (t .work) (t .work′) (t .table) (t .table′) (t .size) (t .built)

@@ -1,5 +1,6 @@
 pub mod Refusing
 pub mod TableOf
 pub mod Guarding
+pub mod Carrying
 pub mod Judging
 pub mod Reading

@@ -27,6 +27,10 @@ module _ (m : Machine) where
       go false none e f = rw (e, f)
       go false (some t) e f = rw (e, f)
 
+  pub count-all : (g : Guard) (p : List Bool) → afterAll m g p .count ≡ g .count + length p
+  count-all g [] = sym (add-zero (g .count))
+  count-all g (o ∷ p) = count-all (after m g o) p ∙ ap (λ n. n + length p) (count-grows g o) ∙ one-more (g .count) (length p)
+
   pub lost-stays : (s : ℕ) (os : List Bool) (n : ℕ) (p : List Bool) → afterAll m (lostIn s os n) p ≡ lostIn s os (n + length p)
   lost-stays s os n [] = ap (lostIn s os) (sym (add-zero n))
   lost-stays s os n (o ∷ p) = lost-stays s os (n + 1) p ∙ ap (lostIn s os) (one-more n (length p))

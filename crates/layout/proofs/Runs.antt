@@ -1,12 +1,13 @@
--- Runs of bytes: a list that a definition makes piece by piece, one piece more; and bytes written after those that stand already. Assumes nothing.
-use mathlib.Core.Path.{_≡_, sym, ap, ap₂, _∙_}
-use mathlib.Core.List.{List, [], _++_, append-assoc, append-nil}
-use Prim.Native.Nat.{ℕ, zero, suc, _+_, _≤_}
+-- Runs of bytes: a list that a definition makes piece by piece, one piece more; bytes written after those that stand already, after a head, and one by one. Assumes nothing.
+use mathlib.Core.Path.{_≡_, refl, sym, ap, ap₂, _∙_}
+use mathlib.Core.List.{List, [], _∷_, _++_, append-assoc, append-nil}
+use Prim.Native.Nat.{ℕ, zero, suc, _+_, _≤_, _<_}
 use native.Mathlib.Nat.{zero-add, add-zero}
 use native.Mathlib.Numerals.{add-one}
 use native.Mathlib.Omega.{arith}
-use lib.ListN.{length, take, drop, length-append}
-use lib.Seq.{length-take-le, take-at, drop-append-add, drop-drop}
+use lib.ListN.{length, take, drop, set, length-append, length-set}
+use lib.Seq.{length-take-le, take-all, take-at, drop-cons, drop-append-add, drop-drop, paste, paste-zero, paste-suc}
+use Rattle.layout.specs.Bytes.{byteAt, fourBytes}
 
 -- a list that is f i, f (i + 1), .. in a row, one more
 module _ {A : Type 0} (f : ℕ → List A) (F : ℕ → ℕ → List A) (none : (i : ℕ) → F i zero ≡ []) (more : (i n : ℕ) → F i (suc n) ≡ f i ++ F (suc i) n) where
@@ -34,3 +35,27 @@ pub put-then : (d vs ws : List ℕ) (at k l : ℕ) → at ≤ length d → lengt
 put-then d vs ws at k l h e =
     put-next d (take at d ++ vs) ws (at + k) l (length-append (take at d) vs ∙ ap₂ (λ a b. a + b) (length-take-le at d h) e)
     ∙ ap (λ z. z ++ drop (at + k + l) d) (append-assoc (take at d) vs ws)
+
+-- a number of four bytes, the version and then s, at the start of a buffer
+pub put-after-head : (d four s : List ℕ) (m n : ℕ) → 5 ≤ length d → four ≡ take 0 d ++ fourBytes m ++ drop 4 d
+    → take 5 (set four 4 1) ++ s ++ drop (5 + n) (set four 4 1) ≡ fourBytes m ++ (1 ∷ s) ++ drop (5 + n) d
+put-after-head d four s m n h e =
+    ap (λ z. take 5 (set z 4 1) ++ s ++ drop (5 + n) (set z 4 1)) (e ∙ ap (λ z. fourBytes m ++ z) (drop-cons d 4 0 (omega arith))) ∙ put-next d (fourBytes m ++ 1 ∷ []) s 5 n refl
+
+-- the first i bytes of s stand in a buffer d from a place on
+pub record Pasted (d : List ℕ) (at : ℕ) (s : List ℕ) (i : ℕ) (out : List ℕ) : Type 0 where
+  pub same-length : length out ≡ length d
+  pub pasted : out ≡ paste d at s i
+
+pub pasted-none : {d s : List ℕ} {at : ℕ} → Pasted d at s 0 d
+pasted-none {d} {s} {at} = record { same-length = refl; pasted = paste-zero d at s }
+
+module _ {d s out : List ℕ} {at i : ℕ} (p : Pasted d at s i out) where
+  pub pasted-turn : (v : ℕ) → at + i < length out → i < length s → v ≡ byteAt s i → Pasted d at s (i + 1) (set out (at + i) v)
+  pasted-turn v h l e = record {
+    same-length = length-set out (at + i) v ∙ p .same-length;
+    pasted = ap₂ (λ o x. set o (at + i) x) (p .pasted) e ∙ paste-suc d at s i 0 (omega arith) l ∙ ap (paste d at s) (sym (add-one i));
+  }
+
+  pub pasted-all : (n : ℕ) → i ≡ n → length s ≡ n → out ≡ take at d ++ s ++ drop (at + n) d
+  pasted-all n e l = p .pasted ∙ ap (paste d at s) e ∙ ap (λ z. take at d ++ z ++ drop (at + n) d) (take-all n s (omega arith))

@@ -1,7 +1,7 @@
--- The last h outcomes of endless hits and then a pattern, taken as a pattern: what they are, how one more outcome moves them, that they are their own last h outcomes, and that they are kept where the pattern is. Assumes nothing.
+-- The last h outcomes of endless hits and then a pattern, taken as a pattern: what they are, that they are their own last h outcomes, and that they are kept where the pattern is. Assumes nothing.
 use mathlib.Core.Path.{_≡_, sym, ap, ap₂, _∙_}
 use mathlib.Core.Bool.{Bool, true}
-use mathlib.Core.List.{List, [], _∷_, _++_}
+use mathlib.Core.List.{List, _∷_, _++_}
 use Prim.Native.Nat.{ℕ, zero, suc, _<_}
 use native.Mathlib.Nat.{zero-add}
 use native.Mathlib.Omega.{arith}
@@ -12,7 +12,7 @@ use Rattle.meaning.specs.declared.LimitSet.{LimitSet}
 use Rattle.meaning.specs.Window.{around, window, recent}
 use Rattle.meaning.specs.Sets.{KeptBy}
 use Rattle.meaning.proofs.TwoKinds.{length-window}
-use Rattle.meaning.proofs.MissMore.{sucℤ-sub, recent-suc, recent-snoc, from-end}
+use Rattle.meaning.proofs.MissMore.{sucℤ-sub, recent-suc, from-end}
 use Rattle.meaning.proofs.Witness.{window-itself, window-kept}
 
 -- k hits before the pattern stand where it has hits anyway
@@ -29,10 +29,6 @@ recent-last p (suc h) =
     recent-suc p h
     ∙ ap₂ {C = List Bool} (λ a w. a ∷ w) (around-filled p (suc h) (length p)) (recent-last p h)
     ∙ sym (drop-cons q (length p) true l)
-
--- one more outcome is the newest, and the oldest goes
-pub recent-push : (p : List Bool) (o : Bool) (h : ℕ) → recent (p ++ o ∷ []) (suc h) ≡ drop 1 (recent p (suc h)) ++ o ∷ []
-recent-push p o h = recent-snoc p o h ∙ ap (λ w. drop 1 w ++ o ∷ []) (sym (recent-suc p h))
 
 pub recent-recent : (p : List Bool) (h : ℕ) → recent (recent p h) h ≡ recent p h
 recent-recent p h =

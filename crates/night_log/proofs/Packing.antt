@@ -1,7 +1,7 @@
 -- The packed bytes: how many there are, which bit of which is which outcome, and that a byte is known from its eight bits. A byte's bits are told by induction over how many outcomes it has. Assumes nothing.
 use mathlib.Core.Path.{_≡_, refl, sym, ap, ap₂, _∙_}
 use mathlib.Core.Logic.{dite}
-use mathlib.Core.Bool.{Bool, true, false}
+use mathlib.Core.Bool.{Bool, false}
 use mathlib.Core.List.{List, [], _∷_}
 use Prim.Native.Nat.{ℕ, zero, suc, _+_, _-_, _*_, _/_, _%_, _^_, _≤_, _<_}
 use native.Mathlib.Nat.{add-zero, zero-add, zero-div, zero-mod, mod-eq-of-lt}
@@ -13,6 +13,7 @@ use lib.Pow.{high, low, field, mod-pow-add, mod-mod-pow}
 use Rattle.patterns.specs.Outcome.{outcome, bit}
 use Rattle.patterns.specs.Number.{number}
 use Rattle.patterns.proofs.Numbers.{bit-le, number-lt}
+use Rattle.patterns.proofs.Outcomes.{outcome-bit, bit-outcome}
 use Rattle.night_log.specs.Bytes.{outcomeAt, byteFrom, packed}
 
 module _ (p : List Bool) where
@@ -51,15 +52,6 @@ bit-below o n k {r} l h = sym (low-bit (o * 2 ^ n + r) n k h) ∙ ap (λ z. z / 
 
 bit-top : (o n : ℕ) {r : ℕ} → o ≤ 1 → r < 2 ^ n → (o * 2 ^ n + r) / 2 ^ n % 2 ≡ o
 bit-top o n h l = ap (λ z. z % 2) (high o n l) ∙ mod-eq-of-lt (omega arith)
-
-outcome-bit : (o : Bool) → outcome (bit o) ≡ o
-outcome-bit true = refl
-outcome-bit false = refl
-
-bit-outcome : (x : ℕ) → x < 2 → bit (outcome x) ≡ x
-bit-outcome zero h = refl
-bit-outcome (suc zero) h = refl
-bit-outcome (suc (suc x)) h = absurd (omega arith)
 
 module _ (p : List Bool) where
   -- the n outcomes from outcome i on, misses past the last one

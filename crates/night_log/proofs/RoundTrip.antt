@@ -4,13 +4,13 @@ use mathlib.Core.Logic.{dite}
 use mathlib.Core.Bool.{Bool, false}
 use mathlib.Core.List.{List, [], _∷_, _++_}
 use Prim.Native.Nat.{ℕ, zero, suc, _+_, _-_, _*_, _/_, _%_, _^_, _≤_, _<_}
-use native.Mathlib.Numerals.{add-one, add-two, add-three, add-four}
 use native.Mathlib.Decide.{decLt}
 use native.Mathlib.Omega.{arith}
 use lib.ListN.{length, drop, length-drop, List·getD-eq-default}
 use lib.Seq.{drop-cons, getD-drop, getD-append-add, ext-getD}
-use Rattle.layout.specs.Bytes.{byteAt, fourAt, fourBytes}
+use Rattle.layout.specs.Bytes.{byteAt, fourBytes}
 use Rattle.layout.specs.Refusal.{passed, first}
+use Rattle.layout.proofs.Numbers.{four-number, four-off}
 use Rattle.patterns.specs.Outcome.{outcome}
 use Rattle.night_log.specs.Bytes.{packedSize, sizeOf, outcomeAt, byteFrom, packed, headBytes, logOf, countOf, outcomeIn, outcomesOf}
 use Rattle.night_log.specs.Rows.{mostOutcomes, unusedBits, logRows}
@@ -19,9 +19,6 @@ use Rattle.night_log.proofs.Outcomes.{outcomes-length, outcomes-at}
 use Rattle.night_log.proofs.Packing.{packed-length, packed-byte, byte-lt, byte-bit, byte-low, byte-back, zero-bit}
 
 -- the log of a pattern
-
-four-number : (n : ℕ) → fourAt (fourBytes n) 0 ≡ n
-four-number n = omega arith
 
 module _ (p : List Bool) where
   log-count : countOf (logOf p) ≡ length p
@@ -89,17 +86,6 @@ log-bytes p h =
 -- the bytes that were read, written again
 
 module _ (b : List ℕ) (bytes : (i : ℕ) → byteAt b i < 256) where
-  four-off : (i : ℕ) → i + 4 ≤ length b → fourBytes (fourAt b i) ++ drop (i + 4) b ≡ drop i b
-  four-off i h =
-      let h₁ = bytes (i + 1) in
-      let h₂ = bytes (i + 2) in
-      let h₃ = bytes (i + 3) in
-      let e₀ : fourAt b i / 16777216 ≡ byteAt b i = omega arith in
-      let e₁ : fourAt b i / 65536 % 256 ≡ byteAt b (i + 1) = omega arith in
-      let e₂ : fourAt b i / 256 % 256 ≡ byteAt b (i + 2) = omega arith in
-      let e₃ : fourAt b i % 256 ≡ byteAt b (i + 3) = omega arith in
-      cc (add-one i, add-two i, add-three i, add-four i, drop-cons b i 0 (omega arith), drop-cons b (suc i) 0 (omega arith), drop-cons b (suc (suc i)) 0 (omega arith), drop-cons b (suc (suc (suc i))) 0 (omega arith))
-
   byte-read : Log b → (k : ℕ) → k < packedSize (countOf b) → byteFrom (outcomesOf b) (8 * k) ≡ byteAt b (9 + k)
   byte-read l k h = byte-back (outcomesOf b) (8 * k) (byteAt b (9 + k)) (bytes (9 + k)) (λ r g. dite (decLt (8 * k + r) (countOf b))
       (λ inside.
@@ -125,7 +111,7 @@ module _ (b : List ℕ) (bytes : (i : ℕ) → byteAt b i < 256) where
   log-of-outcomes e =
       let l = accepted-log b e in
       let z : length (outcomesOf b) ≡ countOf b = outcomes-length b in
-      cc (packed-read l, four-off 0 (omega arith), four-off 5 (omega arith), drop-cons b 4 0 (omega arith))
+      cc (packed-read l, four-off b bytes 0 (omega arith), four-off b bytes 5 (omega arith), drop-cons b 4 0 (omega arith))
 
 pub one-log : (b b′ : List ℕ) → ((i : ℕ) → byteAt b i < 256) → ((i : ℕ) → byteAt b′ i < 256)
     → first (logRows b) ≡ passed → first (logRows b′) ≡ passed → outcomesOf b ≡ outcomesOf b′ → b ≡ b′

@@ -1,7 +1,7 @@
 // The night log: the outcomes of a visit as they are stored, eight to a byte. Here it is read, one outcome a call.
 // Refuses by 15 for a log that isn't one, then by 16 for unused bits that aren't zero; each call tests both, in constant time.
 ghost use mathlib.Core.Path.{_≡_};
-ghost use Prim.Native.Nat.{_+_, _-_, _*_, _/_, _%_, _^_, _≤_, _<_};
+ghost use Prim.Native.Nat.{_+_, _*_, _/_, _%_, _^_, _≤_, _<_};
 ghost use lib.ListN.{length};
 ghost use Rattle.layout.specs.Refusal.{first};
 ghost use Rattle.layout.specs.Head.{faultRow};

@@ -9,6 +9,9 @@ pub struct Limit {
     pub k: u8,
 }
 
+/// "The longest window has 12 jobs".
+pub const LONGEST_WINDOW: usize = 12;
+
 /// The column "window".
 pub fn width(limit: Limit) -> usize {
     match limit.kind {

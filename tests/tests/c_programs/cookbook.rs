@@ -43,8 +43,17 @@ fn written(recipe: &Recipe) -> PathBuf {
 fn every_recipe_in_c() {
     let recipes = recipes();
     let names: Vec<&str> = recipes.iter().map(|recipe| recipe.name.as_str()).collect();
-    let want =
-        ["table_of.h", "row.c", "two_limits.c", "lost.c", "make_table.c", "stored.c", "refused.c", "night_log.c"];
+    let want = [
+        "table_of.h",
+        "row.c",
+        "two_limits.c",
+        "lost.c",
+        "battery.c",
+        "make_table.c",
+        "stored.c",
+        "refused.c",
+        "night_log.c",
+    ];
     assert_eq!(names, want);
     for recipe in &recipes {
         let source = written(recipe);

@@ -6,10 +6,18 @@ mod programs;
 
 use std::fs::{read_to_string, write};
 use std::process::{Command, Output};
+use std::slice;
 
-use floelinnet_tests::floe::{builder, compare, guard, log, row, sets, table, verdict, Guard};
+use floelinnet_tests::floe::{builder, carry, compare, guard, log, row, sets, table, verdict};
+use floelinnet_tests::reference::guard::HELD;
 use floelinnet_tests::tools;
 use programs::{file, prints, prints_given, COMPILERS};
+
+#[test]
+fn operation() {
+    let expected = read_to_string(file("examples/operation.expected")).unwrap();
+    prints(&file("examples/operation.c"), &expected.lines().collect::<Vec<_>>());
+}
 
 #[test]
 fn recorder() {
@@ -41,13 +49,13 @@ fn readme_shows_the_examples() {
         let begin = format!("```{language}\n");
         readme.split(&begin).skip(1).map(|block| block.split_once("```\n").expect("a block ends").0).collect()
     };
-    let examples = ["examples/recorder.c", "examples/visit.c"].map(|path| read_to_string(file(path)).unwrap());
+    let examples = ["examples/operation.c", "examples/visit.c"].map(|path| read_to_string(file(path)).unwrap());
     assert_eq!(blocks("c"), examples);
     assert!(blocks("text").contains(&&*read_to_string(file("examples/visit.expected")).unwrap()));
 }
 
 /// How many functions the header declares.
-const FUNCTIONS: usize = 16;
+const FUNCTIONS: usize = 19;
 
 const SET: &[u8] = &[0, 0, 0, 8, 1, 2, 3, 3, 0, 2, 2, 5];
 const OTHER: &[u8] = &[0, 0, 0, 5, 1, 1, 2, 3, 7];
@@ -119,7 +127,39 @@ fn calls() {
     }
     line!(guard::ask(one, &built));
 
-    let mut guards = [Guard::default(); 3];
+    let needed = carry::write(one, SET, &mut []);
+    line!(needed);
+    let mut record = vec![0; needed.at as usize];
+    one.count = u64::MAX - 1;
+    line!(carry::write(one, SET, &mut record));
+    line!(record);
+    line!(carry::write(one, SET, &mut record[1..]));
+    line!(carry::write(one, FAULTY, &mut []));
+    line!(record);
+    let read = carry::read(&record, &built);
+    line!(read);
+    let mut told = guard::tell(read.guard, &built, 1);
+    line!(told);
+    line!(guard::tell(told.guard, &built, 1));
+    line!(guard::tell(told.guard, &built, 2));
+    line!(row::tell(slice::from_mut(&mut told.guard), 0, &built, 0));
+    line!([told.guard]);
+    for left in 0..record.len() {
+        line!(carry::read(&record[..left], &built));
+    }
+    line!(carry::read(&record, &built[..built.len() - 1]));
+    let outcomes = record.len() - HELD - 9;
+    for place in [4, 9, 11, outcomes, record.len() - 1] {
+        let mut spoilt = record.clone();
+        spoilt[place] = 5;
+        line!(carry::read(&spoilt, &built));
+        line!(carry::read(&spoilt, &[]));
+    }
+    record[outcomes..][..HELD].fill(0);
+    line!(carry::read(&record, &built));
+
+    let mut guards = [guard::new(); 3];
+    line!(guards);
     for _ in 0..3 {
         line!(row::ask(&guards, 1, &built));
         line!(row::ask(&guards, 1, &faulty));
@@ -190,6 +230,11 @@ fn names() {
         ("FLOE_WORK_ENTRIES", floelinnet::WORK_ENTRIES),
         ("FLOE_LONGEST_TABLE", floelinnet::LONGEST_TABLE),
         ("FLOE_MOST_GUARDS", floelinnet::MOST_GUARDS),
+        ("FLOE_LONGEST_WINDOW", floelinnet::LONGEST_WINDOW),
+        ("FLOE_HELD", floelinnet::HELD),
+        ("FLOE_RECORD_SIZE(0)", floelinnet::record_size(0)),
+        ("FLOE_RECORD_SIZE(9)", floelinnet::record_size(9)),
+        ("FLOE_LONGEST_RECORD", floelinnet::LONGEST_RECORD),
         ("FLOE_MISS", floelinnet::MISS.into()),
         ("FLOE_HIT", floelinnet::HIT.into()),
         ("FLOE_LOG_SIZE(0)", floelinnet::log_size(0)),
@@ -201,14 +246,21 @@ fn names() {
     prints(&file("tests/c/names.c"), &lines.iter().map(String::as_str).collect::<Vec<_>>());
 }
 
-/// The forms that the header shows for a set, for a row and for a log are taken by every compiler without a warning.
-/// Those for a log count the two hits of 1 1 0, which "at most 2 misses" keep.
+/// Guards through changes of the battery, against their stories.
+#[test]
+fn changes() {
+    prints(&file("tests/c/changes.c"), &["10000 operations, and every guard is what it was told"]);
+}
+
+/// The forms that the header shows for a set, for a row, for a record and for a log are taken by every compiler without a
+/// warning. Those for a log count the two hits of 1 1 0, which "at most 2 misses" keep.
 #[test]
 fn shown_forms() {
     let header = read_to_string(file("include/floelinnet.h")).unwrap();
-    let shown = |line: &&str| [" *     floe_", " *     for ("].iter().any(|form| line.starts_with(form));
+    let shown =
+        |line: &&str| [" *     floe_", " *     for (", " *     uint8_t "].iter().any(|form| line.starts_with(form));
     let shown: Vec<&str> = header.lines().filter(shown).map(|line| &line[2..]).collect();
-    assert_eq!(shown.len(), 2 + 5, "{shown:?}");
+    assert_eq!(shown.len(), 1 + 2 + 3 + 5, "{shown:?}");
     let shown = shown.join("\n");
     let program = format!(
         "#include <floelinnet.h>
@@ -216,17 +268,39 @@ fn shown_forms() {
          int main(void) {{
              const uint8_t pattern[] = {{1, 1, 0}}, limits[] = {{0, 0, 0, 5, 1, 1, FLOE_ANY_MISS, 2, 8}};
              const size_t pattern_len = sizeof pattern, limits_len = sizeof limits;
+             static uint16_t work[FLOE_WORK_ENTRIES];
+             static uint8_t table[FLOE_LONGEST_TABLE];
+             size_t table_len = floe_build(limits, limits_len, work, FLOE_WORK_ENTRIES, table, sizeof table).length;
+             floe_guard guard = floe_guard_start(table, table_len).guard;
+             guard = floe_guard_tell(guard, table, table_len, FLOE_MISS).guard;
              uint8_t log[FLOE_LOG_SIZE(sizeof pattern)];
              uint64_t hits = 0;
              {shown}
-             printf(\"%u %d\\n\", (unsigned)set.count, row[FLOE_MOST_GUARDS - 1].lost);
+             printf(\"%u %d\\n\", (unsigned)set.count, row[FLOE_MOST_GUARDS - 1].outcomes[0]);
+             printf(\"%u %d\\n\", (unsigned)again.refused, again.guard.state == guard.state && guard.state > 0);
+             printf(\"%u %d\\n\", (unsigned)again.guard.count, again.guard.outcomes[FLOE_HELD - 1]);
              printf(\"%u %u %u\\n\", (unsigned)hits, (unsigned)read.answer, (unsigned)verdict.kept);
              return 0;
          }}\n"
     );
     let source = programs::made("shown_forms.c");
     write(&source, program).unwrap();
-    prints(&source, &["2 0", "2 2 1"]);
+    prints(&source, &["2 1", "0 1", "1 0", "2 2 1"]);
+}
+
+/// The header and the rules show a record: the one that the archive writes of the guard and the set that they name.
+#[test]
+fn shown_record() {
+    let table = [0, 0, 0, 0x0B, 1, 0, 2, 0, 1, 0, 0, 0xFF, 0xFF, 0, 0];
+    let told = guard::tell(guard::start(&table).guard, &table, 0).guard;
+    let mut record = [0; 34];
+    assert_eq!(carry::write(told, &[0, 0, 0, 5, 1, 1, 0, 1, 2], &mut record).length, 34);
+    let words: Vec<String> = record.iter().map(|byte| format!("{byte:02X}")).collect();
+    for page in ["include/floelinnet.h", "docs/RULES.md"] {
+        let text = read_to_string(file(page)).unwrap();
+        let spaced = text.split_whitespace().collect::<Vec<_>>().join(" ");
+        assert!(spaced.contains(&words.join(" ")), "{page}: {words:?}");
+    }
 }
 
 /// What the archive exports the header declares, every function with the attribute. dropped.c calls each and drops what

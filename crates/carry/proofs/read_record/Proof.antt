@@ -3,7 +3,7 @@ use mathlib.Core.Path.{_≡_, sym, ap, ap₂, subst, _∙_}
 use mathlib.Core.Option.{Option, none, some}
 use mathlib.Core.Bool.{true, false}
 use mathlib.Core.List.{List}
-use Prim.Native.Nat.{ℕ, _≤_}
+use Prim.Native.Nat.{ℕ}
 use native.Mathlib.Omega.{arith}
 use borrow.Author.Needs.{needs}
 use lib.ListN.{length}
@@ -16,11 +16,12 @@ use Rattle.guard.specs.declared.Started.{Started}
 use Rattle.guard.specs.declared.StartAnswer.the-variants as start
 use Rattle.guard.specs.Guard.{fresh, startSays}
 use Rattle.guard.specs.Told.{toldAll}
-use Rattle.carry.specs.Bytes.{carried, aroundSet, outcomeBytes, outcomesIn, lostByte}
+use Rattle.carry.specs.Bytes.{carried, outcomeBytes, outcomesIn, lostByte}
 use Rattle.carry.specs.Rows.{recordRows, ledTo}
 use Rattle.carry.specs.Read.{ReadBackAs}
 use Rattle.carry.proofs.Parts.{outcome-part, outcome-count}
-use Rattle.carry.proofs.Reading.{record-long, record-outcomes, back-refused, back-table, back-nowhere, back-led}
+use Rattle.carry.proofs.Accepted.{Record, accepted-record}
+use Rattle.carry.proofs.Reading.{back-refused, back-table, back-nowhere, back-led}
 use Rattle.carry.proofs.Walking.{walked-lost, walked-kept}
 use Rattle.carry.proofs.read_record.Statement.{statement}
 use Rattle.carry.proofs.read_record.Tie as tie
@@ -36,8 +37,8 @@ module _ (c : tie.After-enum-told) where
   pub accepted : first (recordRows longest carried r) ≡ passed
   accepted = sym (c .before .before .test-record .ensures) ∙ ap startSays (c .enum-told .given .1)
 
-  pub long : aroundSet carried ≤ length r
-  long = record-long longest carried r accepted
+  pub right : Record longest carried r
+  right = accepted-record longest carried r accepted
 
 -- past the table's
 module _ (c : tie.After-enum-told2) where
@@ -62,16 +63,16 @@ module _ (c : tie.After-told) where
   told-all = c .told .ensures ∙ ap₂ (λ g l. toldAll (b (e t)) g l) (t .before .before .start .ensures .guard) (outcome-part carried (r (e t)))
 
   many : length bytes ≡ carried
-  many = outcome-count carried (r (e t)) (omega (arith, long (e t)))
+  many = outcome-count carried (r (e t)) (omega (arith, right (e t) .least))
 
   pub led-nowhere : c .told .result .lost ≡ true → ledTo carried (r (e t)) (b (e t)) ≡ none
   led-nowhere l =
-      walked-lost (b (e t)) (checked t) bytes (record-outcomes longest carried (r (e t)) (accepted (e t))) (fresh .outcomes) many (omega (arith, many))
+      walked-lost (b (e t)) (checked t) bytes (right (e t) .outcomes) (fresh .outcomes) many (omega (arith, many))
       (sym (ap (λ z. z .lost) told-all) ∙ l)
 
   pub led : c .told .result .lost ≡ false → (ledTo carried (r (e t)) (b (e t)) ≡ some (c .told .result .state)) × (c .told .result .outcomes ≡ outcomesIn carried (r (e t)))
   led l =
-      let (w, o) = (walked-kept (b (e t)) (checked t) bytes (record-outcomes longest carried (r (e t)) (accepted (e t))) (fresh .outcomes) many (omega (arith, many)) (sym (ap (λ z. z .lost) told-all) ∙ l)) in
+      let (w, o) = (walked-kept (b (e t)) (checked t) bytes (right (e t) .outcomes) (fresh .outcomes) many (omega (arith, many)) (sym (ap (λ z. z .lost) told-all) ∙ l)) in
       (w ∙ ap {B = Option ℕ} some (sym (ap (λ z. z .state) told-all)), ap (λ z. z .outcomes) told-all ∙ o)
 
 test-record-requires : tie.Need-test-record-requires
@@ -113,7 +114,7 @@ enum-told-2 : tie.Need-enum-told-2
 enum-told-2 c = search needs
 
 sub-end : tie.Need-sub-end
-sub-end c = omega (arith, long (e c))
+sub-end c = omega (arith, right (e c) .least)
 
 add-past : tie.Need-add-past
 add-past c = search needs
@@ -125,7 +126,7 @@ part-told-start : tie.Need-part-told-start
 part-told-start c = search needs
 
 part-told-end : tie.Need-part-told-end
-part-told-end c = omega (arith, long (e c))
+part-told-end c = omega (arith, right (e c) .least)
 
 told-requires : tie.Need-told-requires
 told-requires c κs = search needs
@@ -141,16 +142,16 @@ returns-3 c =
     (back-nowhere longest carried (r (e i)) (b (e i)) (accepted (e i)) (checked i) (led-nowhere d (c .before .if1 .taken)))
 
 sub-t16 : tie.Need-sub-t16
-sub-t16 c = omega (arith, long (e (t (c .before .before))))
+sub-t16 c = omega (arith, right (e (t (c .before .before))) .least)
 
 shared-slice-read-t22 : tie.Need-shared-slice-read-t22
-shared-slice-read-t22 c = omega (arith, long (e (t (c .before .before .before))))
+shared-slice-read-t22 c = omega (arith, right (e (t (c .before .before .before))) .least)
 
 sub-eight-at : tie.Need-sub-eight-at
-sub-eight-at c = omega (arith, long (e (t (c .before .before .before))))
+sub-eight-at c = omega (arith, right (e (t (c .before .before .before))) .least)
 
 eight-at-requires : tie.Need-eight-at-requires
-eight-at-requires c κs = omega (arith, long (e (t (c .before .before .before))))
+eight-at-requires c κs = omega (arith, right (e (t (c .before .before .before))) .least)
 
 returns-4 : tie.Need-returns-4
 returns-4 c =

@@ -7,8 +7,9 @@ use borrow.Author.Needs.{needs}
 use lib.ListN.{length, set, length-set, length-map}
 use Rattle.layout.specs.Bytes.{eightBytes}
 use Rattle.patterns.specs.Outcome.{bit}
+use Rattle.patterns.proofs.Outcomes.{cast-bit}
 use Rattle.carry.specs.Bytes.{carried}
-use Rattle.carry.proofs.Writing.{cast-bit, tail-written}
+use Rattle.carry.proofs.Writing.{tail-written}
 use Rattle.carry.proofs.write.put_guard.Statement.{statement}
 use Rattle.carry.proofs.write.put_guard.Tie as tie
 

@@ -4,9 +4,10 @@ use Prim.Native.Nat.{_-_, _≤_}
 use native.Mathlib.Omega.{arith}
 use borrow.Author.Needs.{needs}
 use lib.ListN.{length-map}
+use Rattle.layout.proofs.Runs.{Pasted, pasted-none, pasted-turn, pasted-all}
 use Rattle.patterns.specs.Outcome.{bit}
 use Rattle.carry.specs.Bytes.{carried}
-use Rattle.carry.proofs.Writing.{cast-at, Pasted, pasted-none, pasted-turn, pasted-all}
+use Rattle.carry.proofs.Writing.{cast-at}
 use Rattle.carry.proofs.write.put_outcomes.Statement.{statement}
 use Rattle.carry.proofs.write.put_outcomes.Tie as tie
 

@@ -1,19 +1,15 @@
 -- `night_log::write::bit_at` meets its contract: inside the pattern the byte's outcome, past it none. Assumes nothing.
-use mathlib.Core.Path.{_≡_, refl, sym, ap, _∙_}
-use mathlib.Core.Bool.{Bool, true, false}
+use mathlib.Core.Path.{sym, ap, _∙_}
+use mathlib.Core.Bool.{false}
 use native.Mathlib.Omega.{arith}
-use mir.Val.{boolByte}
 use borrow.Author.Needs.{needs}
 use lib.ListN.{length-map, List·getD-map, List·getD-eq-default}
 use Rattle.layout.specs.Bytes.{byteAt}
 use Rattle.patterns.specs.Outcome.{outcome, outcomes, bit}
 use Rattle.patterns.proofs.Numbers.{bit-le}
+use Rattle.patterns.proofs.Outcomes.{cast-bit}
 use Rattle.night_log.proofs.write.bit_at.Statement.{statement}
 use Rattle.night_log.proofs.write.bit_at.Tie as tie
-
-cast-bit : (b : Bool) → boolByte b ≡ bit b
-cast-bit true = refl
-cast-bit false = refl
 
 shared-slice-read-result : tie.Need-shared-slice-read-result
 shared-slice-read-result c = search needs

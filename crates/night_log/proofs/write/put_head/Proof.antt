@@ -6,8 +6,8 @@ use native.Mathlib.Omega.{arith}
 use lib.ListN.{drop, length-set}
 use borrow.Author.Needs.{needs}
 use Rattle.layout.specs.Bytes.{fourBytes}
+use Rattle.layout.proofs.Runs.{put-after-head}
 use Rattle.night_log.specs.Bytes.{packedSize}
-use Rattle.night_log.proofs.Turns.{head-written}
 use Rattle.night_log.proofs.write.put_head.Statement.{statement}
 use Rattle.night_log.proofs.write.put_head.Tie as tie
 
@@ -35,9 +35,9 @@ returns : tie.Need-returns
 returns c =
     let p = c .before .before .before .before .before .before in
     let s = p .before .before .before .before in
-    head-written (s .args .out .now) (p .put-four .last .0) _ (5 + packedSize (s .args .count)) (s .args .count) (s .pre .1)
+    c .before .before .put-four2 .ensures
+    ∙ put-after-head (s .args .out .now) (p .put-four .last .0) (fourBytes (s .args .count)) (5 + packedSize (s .args .count)) 4 (omega arith)
     (p .put-four .ensures ∙ ap (λ z. fourBytes (5 + z) ++ drop 4 (s .args .out .now)) (p .before .packed-size .ensures .0))
-    (c .before .before .put-four2 .ensures)
 
 pub put-head-spec : {M : Type 1} → statement M
 put-head-spec =

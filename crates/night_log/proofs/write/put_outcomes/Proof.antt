@@ -1,17 +1,18 @@
 -- `night_log::write::put_outcomes` meets its contract. The invariant: past byte 9 stand the first j packed bytes, and then what stood there. Assumes nothing.
-use mathlib.Core.Path.{_≡_, refl, ap, ap₂, _∙_}
-use Prim.Native.Nat.{_+_, _-_, _≤_}
+use mathlib.Core.Path.{_≡_, sym, _∙_}
+use Prim.Native.Nat.{_-_, _≤_, _<_}
 use native.Mathlib.Omega.{arith}
 use borrow.Author.Needs.{needs}
-use lib.ListN.{length, set, length-set}
+use lib.ListN.{length}
+use Rattle.layout.proofs.Runs.{Pasted, pasted-none, pasted-turn, pasted-all}
 use Rattle.patterns.specs.Outcome.{outcomes}
-use Rattle.night_log.specs.Bytes.{packedSize}
-use Rattle.night_log.proofs.Turns.{packedTo, pack-none, pack-turn}
+use Rattle.night_log.specs.Bytes.{packedSize, packed}
+use Rattle.night_log.proofs.Packing.{packed-length, packed-byte}
 use Rattle.night_log.proofs.write.put_outcomes.Statement.{statement}
 use Rattle.night_log.proofs.write.put_outcomes.Tie as tie
 
 abbrev Inv-loop : tie.InvT-loop
-Inv-loop pattern out₀ size j₀ out j = (j ≤ size) × (length out ≡ length out₀) × (out ≡ packedTo (outcomes pattern) out₀ j)
+Inv-loop pattern out₀ size j₀ out j = (j ≤ size) × Pasted out₀ 9 (packed (outcomes pattern) 0 (packedSize (length pattern))) j out
 
 abbrev μ-loop : tie.MeasureT-loop
 μ-loop pattern out₀ size j₀ out j = size - j
@@ -23,7 +24,7 @@ packed-size-requires : tie.Need-packed-size-requires Inv-loop μ-loop
 packed-size-requires c κs = search needs
 
 loop-holds : tie.Need-loop-holds Inv-loop μ-loop
-loop-holds c = let s = c .before .before .before .args in (omega arith, refl, pack-none (outcomes (s .pattern .now)) (s .out .now))
+loop-holds c = (omega arith, pasted-none)
 
 mul-byte-from : tie.Need-mul-byte-from Inv-loop μ-loop
 mul-byte-from c = search needs
@@ -35,7 +36,7 @@ add-out : tie.Need-add-out Inv-loop μ-loop
 add-out c = search needs
 
 slice-write-out : tie.Need-slice-write-out Inv-loop μ-loop
-slice-write-out c = let l = c .before .before in omega (arith, sized (l .before), l .loop .inv .1, l .before .before .before .before .pre .1)
+slice-write-out c = let l = c .before .before in omega (arith, sized (l .before), l .loop .inv .1 .same-length, l .before .before .before .before .pre .1)
 
 add-j : tie.Need-add-j Inv-loop μ-loop
 add-j c = search needs
@@ -47,11 +48,11 @@ loop-again : tie.Need-loop-again Inv-loop μ-loop
 loop-again c =
     let l = c .before .before in
     let s = l .before .before .before .before in
-    let d = s .args .out .now in
-    let p = outcomes (s .args .pattern .now) in (
+    let p = outcomes (s .args .pattern .now) in
+    let n = packedSize (length (s .args .pattern .now)) in
+    let h : l .loop .j < n = omega (arith, sized (l .before)) in (
       omega arith,
-      length-set (l .loop .out) (9 + l .loop .j) (c .byte-from .result) ∙ l .loop .inv .1,
-      ap₂ (λ o v. set o (9 + l .loop .j) v) (l .loop .inv .2) (c .byte-from .ensures) ∙ pack-turn p d (l .loop .j) (omega (arith, sized (l .before), s .pre .1)),
+      pasted-turn (l .loop .inv .1) _ (omega (arith, s .pre .1)) (omega (arith, packed-length p 0 n)) (c .byte-from .ensures ∙ sym (packed-byte p n (l .loop .j) h)),
     )
 
 same-length : tie.Need-same-length Inv-loop μ-loop
@@ -61,8 +62,8 @@ returns : tie.Need-returns Inv-loop μ-loop
 returns c =
     let l = c .before in
     let s = l .before .before .before .before .args in
-    let e : l .loop .j ≡ packedSize (length (s .pattern .now)) = omega (arith, sized (l .before)) in
-    l .loop .inv .2 ∙ ap (packedTo (outcomes (s .pattern .now)) (s .out .now)) e
+    let n = packedSize (length (s .pattern .now)) in
+    pasted-all (l .loop .inv .1) n (omega (arith, sized (l .before))) (packed-length (outcomes (s .pattern .now)) 0 n)
 
 pub put-outcomes-spec : {M : Type 1} → statement M
 put-outcomes-spec =

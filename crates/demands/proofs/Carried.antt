@@ -1,0 +1,82 @@
+-- The demands of the carry-over record, in the library and at the C boundary: each entry is refused exactly by the first row that holds, by its own numbers, and a refusal writes nothing and gives a guard with nothing told; an accepted record has one guard, and equal records hold the same. (That a change gives back the guard that was written: `Demand2`.) Assumes nothing.
+use mathlib.Core.Path.{_≡_, refl, sym, ap, _∙_}
+use mathlib.Core.Option.{Option, none, some}
+use mathlib.Core.Bool.{false, true≢false}
+use mathlib.Core.List.{List, [], _∷_, _++_}
+use Prim.Native.Nat.{ℕ, _<_}
+use lib.ListN.{length, take}
+use Rattle.layout.specs.Bytes.{byteAt}
+use Rattle.layout.specs.Refusal.{row, passed, first}
+use Rattle.layout.specs.declared.WriteAnswer.{WriteAnswer}
+use Rattle.layout.specs.declared.WriteAnswer.the-variants as write
+use Rattle.layout.proofs.Write.{refused-leaves-buffer}
+use Rattle.layout.proofs.Rows.{both-passed, passed-first}
+use Rattle.meaning.specs.Longest.{longest}
+use Rattle.table.specs.Rows.{tableRows}
+use Rattle.guard.specs.declared.Guard.{Guard}
+use Rattle.guard.specs.declared.Started.{Started}
+use Rattle.guard.specs.declared.StartAnswer.the-variants as start
+use Rattle.guard.specs.Guard.{fresh, startSays}
+use Rattle.carry.specs.Bytes.{carried, setIn, recordOf}
+use Rattle.carry.specs.Rows.{writeRows, recordRows, ledTo, leadsNowhere, readRows}
+use Rattle.carry.specs.Write.{RecordWrittenAs}
+use Rattle.carry.specs.Read.{guardAt, guardWhen, ReadBackAs}
+use Rattle.carry.proofs.RoundTrip.{same-record, one-record}
+use Rattle.carry.proofs.Back.{written-record}
+use Rattle.floelinnet.specs.declared.FloeWritten.{FloeWritten}
+use Rattle.floelinnet.specs.declared.FloeStarted.{FloeStarted}
+use Rattle.floelinnet.specs.Flat.{FlatAnswer, flatWritten, flatStarted}
+use Rattle.demands.specs.Refusing.{Refuses, RefusesFlat}
+use Rattle.demands.proofs.Numbers.{CarryWriteNumber, carry-write-numbers, carry-write-positive, CarryReadNumber, carry-read-numbers, carry-read-positive}
+use Rattle.demands.proofs.Answers.{by-written, by-started}
+use Rattle.demands.proofs.FlatAnswers.{opens-refuses, written-opens, start-opens}
+
+-- Writing a record.
+module _ (g : Guard) (set out out′ : List ℕ) (r : WriteAnswer) (written : RecordWrittenAs longest carried g set out out′ r) where
+  pub carry-write-refuses : Refuses write.Refused CarryWriteNumber (first (writeRows longest carried set out)) r
+  carry-write-refuses = by-written CarryWriteNumber (writeRows longest carried set out) r (carry-write-numbers longest carried set out) (written .answer)
+
+  pub refused-carry-write-leaves-buffer : (n v : ℕ) → r ≡ write.Refused n v → out′ ≡ out
+  refused-carry-write-leaves-buffer n v e = refused-leaves-buffer written (carry-write-refuses .exactly n v .0 e)
+
+-- Two guards in memory, of as many outcomes as a guard holds, that were written with one set to equal bytes: equal but for the state.
+pub equal-bytes-equal-guards : (g g′ : Guard) → length (g .outcomes) ≡ carried → length (g′ .outcomes) ≡ carried → (set out o out₂ o₂ : List ℕ) (n n₂ : ℕ)
+    → RecordWrittenAs longest carried g set out o (write.Written n) → RecordWrittenAs longest carried g′ set out₂ o₂ (write.Written n₂) → take n o ≡ take n₂ o₂
+    → (g .lost ≡ g′ .lost) × (g .outcomes ≡ g′ .outcomes) × (g .count ≡ g′ .count)
+equal-bytes-equal-guards g g′ many many′ set out o out₂ o₂ n n₂ w w₂ e =
+    same-record carried set g g′ many many′ (sym (written-record longest carried set g many out o n w .1) ∙ e ∙ written-record longest carried set g′ many′ out₂ o₂ n₂ w₂ .1)
+
+-- Reading one back.
+module _ (r b : List ℕ) (back : Started) (read : ReadBackAs longest carried r b back) where
+  pub carry-read-refuses : Refuses start.Refused CarryReadNumber (first (readRows longest carried r b)) (back .answer)
+  carry-read-refuses = by-started CarryReadNumber (readRows longest carried r b) (back .answer) (carry-read-numbers longest carried r b) (read .refusal)
+
+  pub refused-carry-read-gives-fresh : (n v : ℕ) → back .answer ≡ start.Refused n v → back .guard ≡ fresh
+  refused-carry-read-gives-fresh n v e = read .guard ∙ ap (λ t. guardWhen t carried r b) (carry-read-refuses .exactly n v .0 e)
+
+  -- A record that is read back is the record of the guard that it gives and of its own set: it has one guard, and that guard no other record. (Bytes of memory are below 256.)
+  module _ (bytes : (i : ℕ) → byteAt r i < 256) (accepted : back .answer ≡ start.Started) where
+    all-passed : first (readRows longest carried r b) ≡ passed
+    all-passed = sym (read .refusal) ∙ ap startSays accepted
+
+    tests : (first (recordRows longest carried r) ≡ passed) × (first (tableRows b ++ row 25 (leadsNowhere (ledTo carried r b)) 0 ∷ []) ≡ passed)
+    tests = both-passed (recordRows longest carried r) (tableRows b ++ row 25 (leadsNowhere (ledTo carried r b)) 0 ∷ []) all-passed
+
+    leads : leadsNowhere (ledTo carried r b) ≡ false
+    leads = passed-first _ _ (both-passed (tableRows b) (row 25 (leadsNowhere (ledTo carried r b)) 0 ∷ []) (tests .1) .1) .0
+
+    pub accepted-record-has-one-guard : recordOf carried (setIn carried r) (back .guard) ≡ r
+    accepted-record-has-one-guard = ap (recordOf carried (setIn carried r)) (read .guard ∙ ap (λ t. guardWhen t carried r b) all-passed) ∙ go (ledTo carried r b) refl
+      where
+        go : (x : Option ℕ) → ledTo carried r b ≡ x → recordOf carried (setIn carried r) (guardAt (ledTo carried r b) carried r) ≡ r
+        go none e = absurd (true≢false (sym (ap leadsNowhere e) ∙ leads))
+        go (some s) e = ap (λ z. recordOf carried (setIn carried r) (guardAt z carried r)) e ∙ one-record longest carried r bytes (tests .0) s
+
+-- The boundary.
+pub floe-carry-write-refuses : (g : Guard) (set out out′ : List ℕ) (f : FloeWritten) → FlatAnswer (RecordWrittenAs longest carried g set out out′) flatWritten f → RefusesFlat CarryWriteNumber (first (writeRows longest carried set out)) (f .refused) (f .at)
+floe-carry-write-refuses g set out out′ f (a, written, e) =
+    rw e (opens-refuses CarryWriteNumber (writeRows longest carried set out) carry-write-positive (carry-write-numbers longest carried set out) (written-opens a) (written .answer))
+
+pub floe-carry-read-refuses : (r b : List ℕ) (f : FloeStarted) → FlatAnswer (ReadBackAs longest carried r b) flatStarted f → RefusesFlat CarryReadNumber (first (readRows longest carried r b)) (f .refused) (f .at)
+floe-carry-read-refuses r b f (a, read, e) =
+    rw e (opens-refuses CarryReadNumber (readRows longest carried r b) carry-read-positive (carry-read-numbers longest carried r b) (start-opens (a .answer)) (read .refusal))
