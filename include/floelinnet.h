@@ -12,11 +12,11 @@
  * The way to guard a job that runs again and again: name its limits in a floe_set; floe_write_set writes the bytes of
  * that set, which is what functions with a `set` want; then floe_build and floe_guard_start; and each time before the
  * job runs floe_guard_ask, and after it floe_guard_tell. Jobs with the same limits share a table and may stand in a
- * row; a job with other limits has a table of its own. examples/recorder.c is a whole program, docs/COOKBOOK.md has
+ * row; a job with other limits has a table of its own. examples/operation.c is a whole program, docs/COOKBOOK.md has
  * more.
  *
  * The way through a change of the battery: floe_carry_write makes a record of the guard, which is stored, and when the
- * power is back floe_carry_read gives that guard.
+ * power is back floe_carry_read gives that guard. examples/recorder.c is a whole program.
  *
  * The way to judge a visit later: floe_log_write makes a night log of its outcomes, which is stored, and floe_log_judge
  * gives the verdict on it, under these or any other limits, and says of a lost one where to look. examples/visit.c is a

@@ -203,9 +203,9 @@ const ANY_MISS: &[u8] = &[0, 0, 0, 7, 1, 0, 1, 0, 0, 0, 0];
 
 /// Worked calls: the table, the row before, the calls and what they answer, and the row after.
 ///
-/// A guard is its state, with `!` where it is lost; one with nothing told but for these is meant before. A call is `s` start, `a` ask, `m` tell a miss, `h` tell a hit or
-/// `x` tell 255, and the job's number. An answer is `-` where a start or a tell wasn't refused, `n`, `p` or `l` for
-/// what an ask says, or the number of the refusal.
+/// A guard is its state, with `!` where it is lost; one with nothing told but for these is meant before. A call is `s`
+/// start, `a` ask, `m` tell a miss, `h` tell a hit or `x` tell 255, and the job's number. An answer is `-` where a
+/// start or a tell wasn't refused, `n`, `p` or `l` for what an ask says, or the number of the refusal.
 #[rustfmt::skip]
 const WORKED: &[(&[u8], &str, &str, &str, &str)] = &[
     // One job alone: as a single guard.

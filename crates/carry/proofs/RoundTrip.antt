@@ -40,10 +40,10 @@ module _ (h : ℕ) (set : List ℕ) (g : Guard) (held : length (g .outcomes) ≡
   past-head : drop (length (recordOf h set g) - tailSize h) (recordOf h set g) ≡ bits ++ (count ++ lost)
   past-head = drop-at (headBytes h set) (tailBytes g) (length (recordOf h set g) - tailSize h) (omega (arith, record-length)) ∙ append-assoc bits count lost
 
-  pub set-of-record : setIn h (recordOf h set g) ≡ set
+  set-of-record : setIn h (recordOf h set g) ≡ set
   set-of-record = take-at set (tailBytes g) (length (recordOf h set g) - aroundSet h) (omega (arith, record-length))
 
-  pub outcome-bytes-of-record : outcomeBytes h (recordOf h set g) ≡ map bit (g .outcomes)
+  outcome-bytes-of-record : outcomeBytes h (recordOf h set g) ≡ map bit (g .outcomes)
   outcome-bytes-of-record = ap (take h) past-head ∙ take-at bits (count ++ lost) h bits-length
 
   pub outcomes-of-record : outcomesIn h (recordOf h set g) ≡ g .outcomes

@@ -1,9 +1,10 @@
--- The demands of the carry-over record, in the library and at the C boundary: each entry is refused exactly by the first row that holds, by its own numbers, and a refusal writes nothing and gives a guard with nothing told; an accepted record has one guard, and equal records hold the same. (That a change gives back the guard that was written: `Demand2`.) Assumes nothing.
-use mathlib.Core.Path.{_≡_, refl, sym, ap, _∙_}
+-- The demands of the carry-over record, in the library and at the C boundary: each entry is refused exactly by the first row that holds, by its own numbers, and a refusal writes nothing and gives a guard with nothing told; an accepted record has one guard, and equal records hold the same. (That a change gives back the guard that was written: `Demand2`, and here at the boundary.) Assumes nothing.
+use mathlib.Core.Path.{_≡_, refl, sym, ap, subst, _∙_}
 use mathlib.Core.Option.{Option, none, some}
 use mathlib.Core.Bool.{false, true≢false}
 use mathlib.Core.List.{List, [], _∷_, _++_}
 use Prim.Native.Nat.{ℕ, _<_}
+use native.Mathlib.Omega.{arith}
 use lib.ListN.{length, take}
 use Rattle.layout.specs.Bytes.{byteAt}
 use Rattle.layout.specs.Refusal.{row, passed, first}
@@ -16,7 +17,7 @@ use Rattle.table.specs.Rows.{tableRows}
 use Rattle.guard.specs.declared.Guard.{Guard}
 use Rattle.guard.specs.declared.Started.{Started}
 use Rattle.guard.specs.declared.StartAnswer.the-variants as start
-use Rattle.guard.specs.Guard.{fresh, startSays}
+use Rattle.guard.specs.Guard.{fresh, startSays, StartedAs}
 use Rattle.carry.specs.Bytes.{carried, setIn, recordOf}
 use Rattle.carry.specs.Rows.{writeRows, recordRows, ledTo, leadsNowhere, readRows}
 use Rattle.carry.specs.Write.{RecordWrittenAs}
@@ -27,9 +28,12 @@ use Rattle.floelinnet.specs.declared.FloeWritten.{FloeWritten}
 use Rattle.floelinnet.specs.declared.FloeStarted.{FloeStarted}
 use Rattle.floelinnet.specs.Flat.{FlatAnswer, flatWritten, flatStarted}
 use Rattle.demands.specs.Refusing.{Refuses, RefusesFlat}
+use Rattle.demands.specs.TableOf.{TableOf}
+use Rattle.demands.specs.Carrying.{Changed, Event, Through}
 use Rattle.demands.proofs.Numbers.{CarryWriteNumber, carry-write-numbers, carry-write-positive, CarryReadNumber, carry-read-numbers, carry-read-positive}
 use Rattle.demands.proofs.Answers.{by-written, by-started}
 use Rattle.demands.proofs.FlatAnswers.{opens-refuses, written-opens, start-opens}
+use Rattle.demands.proofs.Demand2.{change-gives-same}
 
 -- Writing a record.
 module _ (g : Guard) (set out out′ : List ℕ) (r : WriteAnswer) (written : RecordWrittenAs longest carried g set out out′ r) where
@@ -54,8 +58,8 @@ module _ (r b : List ℕ) (back : Started) (read : ReadBackAs longest carried r 
   pub refused-carry-read-gives-fresh : (n v : ℕ) → back .answer ≡ start.Refused n v → back .guard ≡ fresh
   refused-carry-read-gives-fresh n v e = read .guard ∙ ap (λ t. guardWhen t carried r b) (carry-read-refuses .exactly n v .0 e)
 
-  -- A record that is read back is the record of the guard that it gives and of its own set: it has one guard, and that guard no other record. (Bytes of memory are below 256.)
-  module _ (bytes : (i : ℕ) → byteAt r i < 256) (accepted : back .answer ≡ start.Started) where
+  -- A record that is accepted gives the guard that it holds, in some state.
+  module _ (accepted : back .answer ≡ start.Started) where
     all-passed : first (readRows longest carried r b) ≡ passed
     all-passed = sym (read .refusal) ∙ ap startSays accepted
 
@@ -65,12 +69,24 @@ module _ (r b : List ℕ) (back : Started) (read : ReadBackAs longest carried r 
     leads : leadsNowhere (ledTo carried r b) ≡ false
     leads = passed-first _ _ (both-passed (tableRows b) (row 25 (leadsNowhere (ledTo carried r b)) 0 ∷ []) (tests .1) .1) .0
 
-    pub accepted-record-has-one-guard : recordOf carried (setIn carried r) (back .guard) ≡ r
-    accepted-record-has-one-guard = ap (recordOf carried (setIn carried r)) (read .guard ∙ ap (λ t. guardWhen t carried r b) all-passed) ∙ go (ledTo carried r b) refl
+    holds : (s : ℕ) × (back .guard ≡ guardAt (some s) carried r)
+    holds = go (ledTo carried r b) refl
       where
-        go : (x : Option ℕ) → ledTo carried r b ≡ x → recordOf carried (setIn carried r) (guardAt (ledTo carried r b) carried r) ≡ r
+        go : (x : Option ℕ) → ledTo carried r b ≡ x → (s : ℕ) × (back .guard ≡ guardAt (some s) carried r)
         go none e = absurd (true≢false (sym (ap leadsNowhere e) ∙ leads))
-        go (some s) e = ap (λ z. recordOf carried (setIn carried r) (guardAt z carried r)) e ∙ one-record longest carried r bytes (tests .0) s
+        go (some s) e = (s, read .guard ∙ ap (λ t. guardWhen t carried r b) all-passed ∙ ap (λ z. guardAt z carried r) e)
+
+    -- It is the record of that guard and of its own set, so that guard has no other record with that set. (Bytes of memory are below 256.)
+    pub accepted-is-record-of-its-guard : ((i : ℕ) → byteAt r i < 256) → recordOf carried (setIn carried r) (back .guard) ≡ r
+    accepted-is-record-of-its-guard bytes = let (s, e) = holds in ap (recordOf carried (setIn carried r)) e ∙ one-record longest carried r bytes (tests .0) s
+
+-- An accepted record has one guard: on whichever tables it is read, what comes is equal but for the state.
+pub accepted-record-has-one-guard : (r b b₂ : List ℕ) (back back₂ : Started) → ReadBackAs longest carried r b back → ReadBackAs longest carried r b₂ back₂ → back .answer ≡ start.Started → back₂ .answer ≡ start.Started
+    → (back .guard .lost ≡ back₂ .guard .lost) × (back .guard .outcomes ≡ back₂ .guard .outcomes) × (back .guard .count ≡ back₂ .guard .count)
+accepted-record-has-one-guard r b b₂ back back₂ read read₂ accepted accepted₂ =
+    let (s, e) = holds r b back read accepted in
+    let (t, f) = holds r b₂ back₂ read₂ accepted₂ in
+    (ap (λ z. z .lost) e ∙ sym (ap (λ z. z .lost) f), ap (λ z. z .outcomes) e ∙ sym (ap (λ z. z .outcomes) f), ap (λ z. z .count) e ∙ sym (ap (λ z. z .count) f))
 
 -- The boundary.
 pub floe-carry-write-refuses : (g : Guard) (set out out′ : List ℕ) (f : FloeWritten) → FlatAnswer (RecordWrittenAs longest carried g set out out′) flatWritten f → RefusesFlat CarryWriteNumber (first (writeRows longest carried set out)) (f .refused) (f .at)
@@ -80,3 +96,19 @@ floe-carry-write-refuses g set out out′ f (a, written, e) =
 pub floe-carry-read-refuses : (r b : List ℕ) (f : FloeStarted) → FlatAnswer (ReadBackAs longest carried r b) flatStarted f → RefusesFlat CarryReadNumber (first (readRows longest carried r b)) (f .refused) (f .at)
 floe-carry-read-refuses r b f (a, read, e) =
     rw e (opens-refuses CarryReadNumber (readRows longest carried r b) carry-read-positive (carry-read-numbers longest carried r b) (start-opens (a .answer)) (read .refusal))
+
+-- One change more of a run on the table built from the set, by the exported functions: where the record isn't refused, it is read back, and the guard is the one that was written.
+pub floe-change-gives-same : (set b : List ℕ) → TableOf set b → (s : Started) → StartedAs b s → (events : List Event) (g : Guard) → Through set b (s .guard) events g
+    → (out out′ : List ℕ) (w : FloeWritten) → FlatAnswer (RecordWrittenAs longest carried g set out out′) flatWritten w → w .refused ≡ 0
+    → (f : FloeStarted) → FlatAnswer (ReadBackAs longest carried (take (w .length) out′) b) flatStarted f → (f .refused ≡ 0) × (f .guard ≡ g)
+floe-change-gives-same set b t s started events g run out out′ w (a, written, e) taken f (back, read, d) = go a written e
+  where
+    go : (a : WriteAnswer) → RecordWrittenAs longest carried g set out out′ a → w ≡ flatWritten a → (f .refused ≡ 0) × (f .guard ≡ g)
+    go (write.Written n) written e =
+        let changed : Changed set b g back = record { out = out; out′ = out′; size = n; written = written; back = subst (λ k. ReadBackAs longest carried (take k out′) b back) (ap (λ z. z .length) e) read } in
+        let same = d ∙ ap flatStarted (change-gives-same set b t s started events g run back changed) in
+        (ap (λ z. z .refused) same, ap (λ z. z .guard) same)
+    go (write.Refused n v) written e =
+        let own = carry-write-positive n (carry-write-refuses g set out out′ (write.Refused n v) written .numbers n v refl) in
+        let zero : n ≡ 0 = sym (ap (λ z. z .refused) e) ∙ taken in
+        absurd (omega arith)

@@ -71,7 +71,7 @@ module _ (set b : List ℕ) (t : TableOf set b) where
       kept = made-walks-kept set b t
 
   -- an ask there has an answer
-  pub can-be-asked : (told : List ℕ) → (r : Asked) × AskedAs b (toldAll b fresh told) r
+  can-be-asked : (told : List ℕ) → (r : Asked) × AskedAs b (toldAll b fresh told) r
   can-be-asked told = go (g .lost) (m .next (g .state) false) refl refl
     where
       g : Guard
@@ -131,7 +131,7 @@ module _ (set b : List ℕ) (t : TableOf set b) where
   hits-kept p (suc k) h = subst (KeptBy (setOf set)) (append-assoc p (true ∷ []) (replicate k true)) (hits-kept (p ++ true ∷ []) k (kept-by-hit (setOf set) p h))
 
   -- two kept patterns with the same last outcomes lead to one state, and the last outcomes of a kept pattern lead where it leads
-  pub recent-leads-there : (p : List Bool) → KeptBy (setOf set) p → walk m 0 (recent p (longest - 1)) ≡ walk m 0 p
+  recent-leads-there : (p : List Bool) → KeptBy (setOf set) p → walk m 0 (recent p (longest - 1)) ≡ walk m 0 p
   recent-leads-there p k =
       made-walk set b t (recent p (longest - 1))
       ∙ recent-leads (setOf set) (longest - 1) (made-allowed set b t) (canonical-machine set b t) (made-canonical set b t) p k
@@ -148,7 +148,7 @@ module _ (set b : List ℕ) (t : TableOf set b) where
 
   -- where a guard that isn't lost stands
   module _ (told : List ℕ) (e : toldAll b fresh told .lost ≡ false) where
-    pub stands-at : (s : ℕ) × (walk m 0 (heard told) ≡ some s) × (toldAll b fresh told ≡ standing s (latest (fresh .outcomes) (heard told)) (0 + length (heard told)))
+    stands-at : (s : ℕ) × (walk m 0 (heard told) ≡ some s) × (toldAll b fresh told ≡ standing s (latest (fresh .outcomes) (heard told)) (0 + length (heard told)))
     stands-at =
         let (s, w) = made-walks-kept set b t (heard told) .1 (not-lost-kept told e) in
         (s, w, after-told told ∙ told-walk m 0 s (fresh .outcomes) 0 (heard told) w)

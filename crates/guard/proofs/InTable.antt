@@ -23,7 +23,7 @@ use Rattle.guard.proofs.Walked.{count-grows}
 use Rattle.guard.proofs.Answered.{ask-by-walk}
 
 module _ (m : Machine) (w : WellMade m) where
-  pub state-below : (g : Guard) (o : Bool) → g .state < m .states → after m g o .state < m .states
+  state-below : (g : Guard) (o : Bool) → g .state < m .states → after m g o .state < m .states
   state-below g o h = go (g .lost) (m .next (g .state) o) refl
     where
       go : (l : Bool) (r : Option ℕ) → m .next (g .state) o ≡ r → cond l (lostIn (g .state) (g .outcomes) (g .count + 1)) (moved r g o) .state < m .states
@@ -31,7 +31,7 @@ module _ (m : Machine) (w : WellMade m) where
       go false none e = h
       go false (some t) e = w .next-below (g .state) t o h e
 
-  pub states-below : (g : Guard) (p : List Bool) → g .state < m .states → afterAll m g p .state < m .states
+  states-below : (g : Guard) (p : List Bool) → g .state < m .states → afterAll m g p .state < m .states
   states-below g [] h = h
   states-below g (o ∷ p) h = states-below (after m g o) p (state-below g o h)
 
@@ -40,7 +40,7 @@ module _ (b : List ℕ) (e : first (tableRows b) ≡ passed) where
   m = machineOf b
 
   module _ (g : Guard) (h : g .state < stateCount b) where
-    pub asked-in-table : (r : Asked) → AskedAs b g r → askSays (r .answer) ≡ passed
+    asked-in-table : (r : Asked) → AskedAs b g r → askSays (r .answer) ≡ passed
     asked-in-table r asked = asked .refusal ∙ checked-looks b e (g .state) h
 
     abbrev left : ℕ → List Row
@@ -52,14 +52,14 @@ module _ (b : List ℕ) (e : first (tableRows b) ≡ passed) where
     left-17 : (byte : ℕ) → byte ≤ 1 → first (tellRows b g byte) ≡ first (row 17 (leb mostTold (g .count)) 0 ∷ [])
     left-17 byte l = left-13 byte ∙ first-skip 13 0 (ltb 1 byte) (row 17 (leb mostTold (g .count)) 0 ∷ []) (le-ltb 1 byte l)
 
-    pub told-in-table : (byte : ℕ) → byte ≤ 1 → g .count < mostTold → first (tellRows b g byte) ≡ passed
+    told-in-table : (byte : ℕ) → byte ≤ 1 → g .count < mostTold → first (tellRows b g byte) ≡ passed
     unfolding first
     told-in-table byte l c = left-17 byte l ∙ first-skip 17 0 (leb mostTold (g .count)) [] (lt-leb mostTold (g .count) c)
 
-    pub refused-in-table : (byte : ℕ) → 1 < byte → first (tellRows b g byte) ≡ refused 13 0
+    refused-in-table : (byte : ℕ) → 1 < byte → first (tellRows b g byte) ≡ refused 13 0
     refused-in-table byte l = left-13 byte ∙ first-here 13 0 (ltb 1 byte) (row 17 (leb mostTold (g .count)) 0 ∷ []) (lt-ltb 1 byte l)
 
-    pub full-in-table : (byte : ℕ) → byte ≤ 1 → mostTold ≤ g .count → first (tellRows b g byte) ≡ refused 17 0
+    full-in-table : (byte : ℕ) → byte ≤ 1 → mostTold ≤ g .count → first (tellRows b g byte) ≡ refused 17 0
     full-in-table byte l c = left-17 byte l ∙ first-here 17 0 (leb mostTold (g .count)) [] (le-leb mostTold (g .count) c)
 
   pub told-heard : (g : Guard) (bytes : List ℕ) → g .state < stateCount b → toldAll b g bytes ≡ afterAll m g (heardAfter (g .count) bytes)

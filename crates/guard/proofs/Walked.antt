@@ -31,7 +31,7 @@ module _ (m : Machine) where
   count-all g [] = sym (add-zero (g .count))
   count-all g (o ∷ p) = count-all (after m g o) p ∙ ap (λ n. n + length p) (count-grows g o) ∙ one-more (g .count) (length p)
 
-  pub lost-stays : (s : ℕ) (os : List Bool) (n : ℕ) (p : List Bool) → afterAll m (lostIn s os n) p ≡ lostIn s os (n + length p)
+  lost-stays : (s : ℕ) (os : List Bool) (n : ℕ) (p : List Bool) → afterAll m (lostIn s os n) p ≡ lostIn s os (n + length p)
   lost-stays s os n [] = ap (lostIn s os) (sym (add-zero n))
   lost-stays s os n (o ∷ p) = lost-stays s os (n + 1) p ∙ ap (lostIn s os) (one-more n (length p))
 
@@ -91,11 +91,6 @@ module _ (m : Machine) where
     pub lost-not-walked : (g .lost ≡ true) ↔ (Can m s p → ⊥)
     lost-not-walked = (λ e c. true≢false (sym e ∙ ap (λ z. z .lost) (told-walk s (c .0) os n p (c .1))), lost-when)
 
-  -- outcomes after others
-  pub after-then : (g : Guard) (p q : List Bool) → afterAll m g (p ++ q) ≡ afterAll m (afterAll m g p) q
-  after-then g [] q = refl
-  after-then g (o ∷ p) q = after-then (after m g o) p q
-
 -- bytes after others
 pub told-then : (b : List ℕ) (g : Guard) (bytes rest : List ℕ) → toldAll b g (bytes ++ rest) ≡ toldAll b (toldAll b g bytes) rest
 told-then b g [] rest = refl
@@ -108,7 +103,7 @@ module _ (m : Machine) (start : ℕ) (hs : List Bool) where
     pub leads : walk m start by ≡ some (g .state)
     pub holds : g .outcomes ≡ latest hs by
 
-  pub led-on : (q p : List Bool) (s n : ℕ) → walk m start q ≡ some s → Led (afterAll m (standing s (latest hs q) n) p)
+  led-on : (q p : List Bool) (s n : ℕ) → walk m start q ≡ some s → Led (afterAll m (standing s (latest hs q) n) p)
   led-on q [] s n e = record { by = q; leads = e; holds = refl }
   led-on q (o ∷ p) s n e = go (m .next s o) refl (λ u. led-on (q ++ o ∷ []) p u (n + 1))
     where

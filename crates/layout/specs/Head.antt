@@ -1,4 +1,4 @@
--- RULES, Refusals, 1 and 2 of a set, 10 and 11 of a table, 15 of a log: it "has under" so many bytes, "or its length field isn't how many bytes follow it"; then its version "isn't 1".
+-- RULES, Refusals, 1 and 2 of a set, 10 and 11 of a table, 15 of a log, 18 of a record: it "has under" so many bytes, "or its length field isn't how many bytes follow it"; then its version "isn't 1".
 use mathlib.Core.Bool.{not, _||_}
 use mathlib.Core.List.{List, [], _∷_}
 use Prim.Native.Nat.{ℕ, zero, suc, _-_}
