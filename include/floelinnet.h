@@ -341,6 +341,12 @@ FLOE_NODISCARD floe_told floe_guard_tell(floe_guard guard, const uint8_t *table,
  * floe_carry_read gives into row[job]. A call concerns the guard of one job, numbered from 0 (in a row a job is one of
  * several that run side by side; in a pattern it is one run): the guards of the other jobs are never written, and the
  * answer doesn't depend on them.
+ *
+ * A single guard is a row of one. Handed over by its address it isn't copied in and out, and the call is the faster one
+ * for it; what it answers is the same:
+ *
+ *     floe_row_asked asked = floe_row_ask(&guard, 1, 0, table, table_len);
+ *     floe_done told = floe_row_tell(&guard, 1, 0, table, table_len, FLOE_HIT);
  */
 
 /*

@@ -2,6 +2,7 @@
 //! on the small one of sets/breath.limits.
 
 use std::hint::black_box;
+use std::slice::from_ref;
 
 use floelinnet_tests::floe;
 use floelinnet_tests::reference::limits::Limit;
@@ -43,6 +44,7 @@ fn asked_and_told(figures: &mut Figures, limits: &[Limit]) {
     let guard = floe::guard::start(table).guard;
     assert_eq!(plain_of(guard), plain::guard::NEW);
     assert_eq!(floe::guard::ask(guard, table).answer, 0);
+    assert_eq!(plain::guard::ask(plain::guard::NEW, table), Ok((plain::guard::Answer::Normal, plain::guard::NEW)));
     let mut told = guard;
     let (mut state, mut plain_told) = (0, plain::guard::NEW);
     let asked_row = [guard; 16];
@@ -67,10 +69,14 @@ fn asked_and_told(figures: &mut Figures, limits: &[Limit]) {
         &mut || use_up(floe::row::tell(black_box(&mut row), black_box(5), black_box(table), 1)),
         &mut || use_up(plain::guard::row_next(black_box(&mut state_row), black_box(5), black_box(table), 1)),
         &mut || use_up(plain::guard::row_tell(black_box(&mut plain_row), black_box(5), black_box(table), 1)),
+        &mut || use_up(plain::guard::ask(black_box(plain::guard::NEW), black_box(table))),
+        &mut || use_up(floe::row::ask(black_box(from_ref(&guard)), 0, black_box(table))),
     ]);
     let (lookup, whole) = ("the same tests and an array lookup", "a plain guard, with its outcomes and its count");
     for (what, archive, beside, plain) in [
         ("guard, ask", 0, lookup, 1),
+        ("guard, ask", 0, whole, 10),
+        ("guard, ask as a row of one", 11, "floe_guard_ask of the same guard", 0),
         ("guard, tell a hit", 2, lookup, 3),
         ("guard, tell a hit", 2, whole, 4),
         ("row, ask", 5, lookup, 6),

@@ -159,14 +159,18 @@ static void operate(floe_guard *row, size_t job, story *s, const floe_set *limit
         floe_asked asked = floe_guard_ask(row[job], table, table_len);
         HOLDS(asked.refused == FLOE_ACCEPTED && asked.answer == says);
         HOLDS(floe_row_ask(row, JOBS, job, table, table_len).answer == says);
+        HOLDS(floe_row_ask(&row[job], 1, 0, table, table_len).answer == says);
         row[job] = asked.guard;
         heard[says]++;
     } else if (operation < 10) {
         bool miss = below(2) == 0 && (says != FLOE_PANIC || below(8) == 0);
         uint8_t told = (uint8_t)!miss;
+        floe_guard alone = row[job];
+        HOLDS(floe_row_tell(&alone, 1, 0, table, table_len, told).refused == FLOE_ACCEPTED);
         if (in_row) HOLDS(floe_row_tell(row, JOBS, job, table, table_len, told).refused == FLOE_ACCEPTED);
         else row[job] = floe_guard_tell(row[job], table, table_len, told).guard;
         tell(s, limits, told);
+        holds_what_it_was_told(alone, s, table);
     } else if (operation < 11) {
         uint8_t none = (uint8_t)(2 + below(254));
         floe_told told = floe_guard_tell(row[job], table, table_len, none);

@@ -55,6 +55,25 @@ pub fn start(table: &[u8]) -> Result<Guard, u8> {
     Ok(NEW)
 }
 
+#[derive(Clone, Copy, PartialEq, Eq, Debug)]
+pub enum Answer {
+    Normal,
+    Panic,
+    Lost,
+}
+
+/// The guard goes in and comes back beside the answer, as the rules have it.
+#[inline(never)]
+pub fn ask(guard: Guard, table: &[u8]) -> Result<(Answer, Guard), u8> {
+    let (miss, _) = entry(table, guard.state)?;
+    let answer = match (guard.lost, miss) {
+        (true, _) => Answer::Lost,
+        (false, 0xFFFF) => Answer::Panic,
+        (false, _) => Answer::Normal,
+    };
+    Ok((answer, guard))
+}
+
 #[inline(never)]
 pub fn tell(mut guard: Guard, table: &[u8], outcome: u8) -> Result<Guard, u8> {
     told(&mut guard, table, outcome)?;

@@ -1,8 +1,8 @@
-use core::fmt;
+use core::{fmt, slice};
 
 use crate::raw::{self, Guard};
 use crate::refused::accepted;
-use crate::{no_such, Refused};
+use crate::{no_such, row, Refused};
 
 /// What a guard says before a job.
 #[must_use]
@@ -68,10 +68,9 @@ impl Guard {
     ///
     /// Refuses by 10 to 12, whether or not the guard is lost. Of the table only its head and the entry of the guard's
     /// state are tested.
-    pub fn ask(self, table: &[u8]) -> Result<Answer, Refused> {
-        let asked = raw::guard_ask(self, table);
-        accepted(asked.refused, asked.at)?;
-        Ok(Answer::of(asked.answer))
+    pub fn ask(&self, table: &[u8]) -> Result<Answer, Refused> {
+        // It is asked where it lies, as a row of one. By value it would be copied in and out again.
+        row::ask(slice::from_ref(self), 0, table)
     }
 
     /// Tells the guard, after a job, its outcome, [`HIT`](crate::HIT) or [`MISS`](crate::MISS), and gives the guard to

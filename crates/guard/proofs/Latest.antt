@@ -6,7 +6,7 @@ use Prim.Native.Nat.{ℕ, suc, _+_, _-_, _≤_, _<_}
 use native.Mathlib.Nat.{add-comm, zero-add}
 use native.Mathlib.Omega.{arith}
 use lib.ListN.{length, getD, drop, set, length-append, length-drop}
-use lib.Seq.{take-all, drop-cons, drop-drop, drop-length, drop-append-le, drop-append-seam, getD-drop, set-at, paste, paste-zero, paste-suc}
+use lib.Seq.{take-all, drop-cons, drop-drop, drop-length, drop-append-le, drop-append-seam, getD-drop, set-set, set-at, paste, paste-zero, paste-suc}
 use Rattle.guard.specs.Guard.{latest}
 
 pub latest-none : (os : List Bool) → latest os [] ≡ os
@@ -30,25 +30,34 @@ latest-latest os p q =
 pub latest-whole : (os p : List Bool) → length p ≡ length os → latest os p ≡ p
 latest-whole os p e = ap (λ z. drop z (os ++ p)) e ∙ drop-append-seam os p
 
-module _ (os : List Bool) where
-  -- the first i places of a copy have moved up
-  abbrev pub MovedUp : List Bool → ℕ → Type 0
-  MovedUp after i = after ≡ paste os 0 (drop 1 os) i
+module _ (os : List Bool) (hit : Bool) where
+  -- the first i places of a copy hold what the next ones held
+  abbrev up : ℕ → List Bool
+  up i = paste os 0 (drop 1 os) i
 
-  pub moved-none : MovedUp os 0
-  moved-none = paste-zero os 0 (drop 1 os)
+  -- and the new outcome follows
+  abbrev pub Followed : List Bool → ℕ → Type 0
+  Followed after i = after ≡ set (up i) i hit
 
-  pub moved-one : (after : List Bool) (i : ℕ) → i + 1 < length os → MovedUp after i → MovedUp (set after i (getD os (i + 1) false)) (i + 1)
-  moved-one after i h e =
+  pub followed-none : Followed (set os 0 hit) 0
+  followed-none = ap (λ l. set l 0 hit) (paste-zero os 0 (drop 1 os))
+
+  one-up : (i : ℕ) → i + 1 < length os → set (up i) i (getD os (i + 1) false) ≡ up (i + 1)
+  one-up i h =
       let n : length (drop 1 os) ≡ length os - 1 = length-drop 1 os in
       let one-more : suc i ≡ i + 1 = omega arith in
-      ap₂ (λ l v. set l i v) e (ap (λ k. getD os k false) (add-comm i 1) ∙ sym (getD-drop 1 os i false))
-      ∙ ap (λ k. set (paste os 0 (drop 1 os) i) k (getD (drop 1 os) i false)) (sym (zero-add i))
+      ap (set (up i) i) (ap (λ k. getD os k false) (add-comm i 1) ∙ sym (getD-drop 1 os i false))
+      ∙ ap (λ k. set (up i) k (getD (drop 1 os) i false)) (sym (zero-add i))
       ∙ paste-suc os 0 (drop 1 os) i false (omega arith) (omega (arith, n))
-      ∙ ap (paste os 0 (drop 1 os)) one-more
+      ∙ ap up one-more
 
-  pub moved-all : (after : List Bool) (i : ℕ) (hit : Bool) → i + 1 ≡ length os → MovedUp after i → set after i hit ≡ latest os (hit ∷ [])
-  moved-all after i hit h e = ap (λ l. set l i hit) e ∙ last os h
+  pub followed-one : (after : List Bool) (i : ℕ) → i + 1 < length os → Followed after i → Followed (set (set after i (getD os (i + 1) false)) (i + 1) hit) (i + 1)
+  followed-one after i h e =
+      let v = getD os (i + 1) false in
+      ap (λ l. set l (i + 1) hit) (ap (λ l. set l i v) e ∙ set-set (up i) i hit v ∙ one-up i h)
+
+  pub followed-all : (after : List Bool) (i : ℕ) → i + 1 ≡ length os → Followed after i → after ≡ latest os (hit ∷ [])
+  followed-all after i h e = e ∙ last os h
     where
       last : (os : List Bool) → i + 1 ≡ length os → set (paste os 0 (drop 1 os) i) i hit ≡ latest os (hit ∷ [])
       last [] h = absurd (omega arith)

@@ -63,17 +63,19 @@ pub struct Told {
     pub guard: Guard,
 }
 
-// The outcomes held with a new one as the newest, without the oldest.
+// The outcomes held with a new one as the newest, without the oldest. Each takes the place before it, and the new one
+// follows: a loop that only copied would be made a copy in memory, and a tell would wait for it.
 fn latest_of(outcomes: [bool; HELD], hit: bool) -> [bool; HELD]
     ensures { λ r. ⌜ r ≡ latest outcomes (hit ∷ []) ⌝ }
 {
     let mut after = outcomes;
     let mut i = 0;
+    after[i] = hit;
     while i < HELD - 1 {
         after[i] = outcomes[i + 1];
         i += 1;
+        after[i] = hit;
     }
-    after[i] = hit;
     after
 }
 
@@ -158,13 +160,14 @@ impl Guard {
         if self.lost {
             return self.to_lost();
         }
-        if hit {
-            return self.to(moves.hit, true);
+        let mut next = moves.hit;
+        if !hit {
+            if !moves.may_miss {
+                return self.to_lost();
+            }
+            next = moves.miss;
         }
-        if moves.may_miss {
-            return self.to(moves.miss, false);
-        }
-        self.to_lost()
+        self.to(next, hit)
     }
 
     // Before a job: whether a miss is still allowed.

@@ -252,15 +252,15 @@ fn changes() {
     prints(&file("tests/c/changes.c"), &["10000 operations, and every guard is what it was told"]);
 }
 
-/// The forms that the header shows for a set, for a row, for a record and for a log are taken by every compiler without a
-/// warning. Those for a log count the two hits of 1 1 0, which "at most 2 misses" keep.
+/// The forms that the header shows for a set, for a row, for a row of one, for a record and for a log are taken by every
+/// compiler without a warning. Those for a log count the two hits of 1 1 0, which "at most 2 misses" keep.
 #[test]
 fn shown_forms() {
     let header = read_to_string(file("include/floelinnet.h")).unwrap();
     let shown =
         |line: &&str| [" *     floe_", " *     for (", " *     uint8_t "].iter().any(|form| line.starts_with(form));
     let shown: Vec<&str> = header.lines().filter(shown).map(|line| &line[2..]).collect();
-    assert_eq!(shown.len(), 1 + 2 + 3 + 5, "{shown:?}");
+    assert_eq!(shown.len(), 1 + 2 + 2 + 3 + 5, "{shown:?}");
     let shown = shown.join("\n");
     let program = format!(
         "#include <floelinnet.h>
@@ -277,6 +277,7 @@ fn shown_forms() {
              uint64_t hits = 0;
              {shown}
              printf(\"%u %d\\n\", (unsigned)set.count, row[FLOE_MOST_GUARDS - 1].outcomes[0]);
+             printf(\"%u %u\\n\", (unsigned)asked.answer, (unsigned)told.refused);
              printf(\"%u %d\\n\", (unsigned)again.refused, again.guard.state == guard.state && guard.state > 0);
              printf(\"%u %d\\n\", (unsigned)again.guard.count, again.guard.outcomes[FLOE_HELD - 1]);
              printf(\"%u %u %u\\n\", (unsigned)hits, (unsigned)read.answer, (unsigned)verdict.kept);
@@ -285,7 +286,7 @@ fn shown_forms() {
     );
     let source = programs::made("shown_forms.c");
     write(&source, program).unwrap();
-    prints(&source, &["2 1", "0 1", "1 0", "2 2 1"]);
+    prints(&source, &["2 1", "0 0", "0 1", "2 1", "2 2 1"]);
 }
 
 /// The header and the rules show a record: the one that the archive writes of the guard and the set that they name.
