@@ -2,7 +2,7 @@
 // What they mean stands in specs/; the laws of that meaning, on which every other crate rests, in proofs/.
 
 // The longest window that a limit may have. The history length and the number of histories follow from it.
-pub const LONGEST_WINDOW: u8 = 12;
+pub const LONGEST_WINDOW: u8 = 16;
 
 // One limit as its three bytes have it.
 #[repr(C)]

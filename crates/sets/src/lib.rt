@@ -143,7 +143,7 @@ fn refused(number: u8, at: usize) -> SetRead
 }
 
 // Reads a set whose windows are at most `widest` jobs.
-fn read_set_within(bytes: &[u8], widest: u8) -> SetRead
+pub fn read_set_within(bytes: &[u8], widest: u8) -> SetRead
     ensures { λ r. ⌜ ReadAs widest (now (bytes .entry)) r ⌝ }
 {
     let head = test_head(bytes);
