@@ -15,10 +15,10 @@ use Rattle.compare.proofs.keeps.Tie as tie
 
 abbrev Inv-loop : tie.InvT-loop
 Inv-loop set history rest₀ rest =
-    (rest < 2048) × (KeptBy set (outcomesOf (longest - 1) history) ↔ KeptBy set (outcomesOf (longest - 1) rest))
+    (rest < 32768) × (KeptBy set (outcomesOf (longest - 1) history) ↔ KeptBy set (outcomesOf (longest - 1) rest))
 
 abbrev μ-loop : tie.MeasureT-loop
-μ-loop set history rest₀ rest = 2047 - rest
+μ-loop set history rest₀ rest = 32767 - rest
 
 loop-holds : tie.Need-loop-holds Inv-loop μ-loop
 loop-holds c = (c .pre .1, (λ k. k, λ k. k))

@@ -87,7 +87,7 @@ loop-again c =
     let r = c .before .before .scan in
     let (a, b, d) = next-block (longest - 1) (l .n) (l .low) (l .inv .1) (omega arith) in
     let none = none-from-scan (s .args .first) (s .args .second) (longest - 1) (l .low) (l .high) (r .result) (r .ensures) (λ h. omega arith) (l .inv .3) in
-    let low = l .low - (2048 - l .low) in
+    let low = l .low - (32768 - l .low) in
     subst (λ z. (z ≤ longest - 1) × Low (longest - 1) z low × High (longest - 1) z (l .low) × NoneFrom (s .args .first) (s .args .second) (longest - 1) (l .low))
     (sym (add-one (l .n))) (a, d, l .inv .1, none)
 
