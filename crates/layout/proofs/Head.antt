@@ -32,24 +32,24 @@ module _ (a b : List Row) (n at : ℕ) (e : first a ≡ faultRow n at) where
   pub no-fault-before : n ≡ 0 → first (a ++ b) ≡ first b
   no-fault-before h = passed-before a b (e ∙ no-fault n at h)
 
-module _ (least wrong other : ℕ) (b : List ℕ) where
-  pub head-short : length b < least → first (headRows least wrong other b) ≡ refused wrong 0
+module _ (least own wrong other : ℕ) (b : List ℕ) where
+  pub head-short : length b < least → first (headRows least own wrong other b) ≡ refused wrong 0
   unfolding first
   head-short h = simp (lt-ltb _ _ h)
 
-  pub head-unequal : least ≤ length b → (lengthField b ≡ length b - 4 → ⊥) → first (headRows least wrong other b) ≡ refused wrong 0
+  pub head-unequal : least ≤ length b → (lengthField b ≡ length b - 4 → ⊥) → first (headRows least own wrong other b) ≡ refused wrong 0
   unfolding first
   head-unequal h n = simp (le-ltb _ _ h, ne-eqb _ _ n)
 
-  pub head-other : least ≤ length b → lengthField b ≡ length b - 4 → (version b ≡ 1 → ⊥) → first (headRows least wrong other b) ≡ refused other 0
+  pub head-other : least ≤ length b → lengthField b ≡ length b - 4 → (version b ≡ own → ⊥) → first (headRows least own wrong other b) ≡ refused other 0
   unfolding first
   head-other h e n = simp (le-ltb _ _ h, eq-eqb _ _ e, ne-eqb _ _ n)
 
-  pub head-right : least ≤ length b → lengthField b ≡ length b - 4 → version b ≡ 1 → first (headRows least wrong other b) ≡ passed
+  pub head-right : least ≤ length b → lengthField b ≡ length b - 4 → version b ≡ own → first (headRows least own wrong other b) ≡ passed
   unfolding first
   head-right h e v = simp (le-ltb _ _ h, eq-eqb _ _ e, eq-eqb _ _ v)
 
-  pub head-passed : first (headRows least wrong other b) ≡ passed → (least ≤ length b) × (lengthField b ≡ length b - 4) × (version b ≡ 1)
+  pub head-passed : first (headRows least own wrong other b) ≡ passed → (least ≤ length b) × (lengthField b ≡ length b - 4) × (version b ≡ own)
   head-passed p =
       let (f, q) = passed-first _ _ p in
       let (g, _) = passed-first _ _ q in

@@ -48,10 +48,11 @@ pub fn length_field(bytes: &[u8]) -> usize
     four_at(bytes, 0)
 }
 
-// Tests the head of a layout that has at least so many bytes: 0, or the number for a wrong length or for another version.
-pub fn head_fault(bytes: &[u8], least: usize, wrong: u8, other: u8) -> u8
+// Tests the head of a layout that has at least so many bytes and a version of its own: 0, or the number for a wrong
+// length or for another version.
+pub fn head_fault(bytes: &[u8], least: usize, own: u8, wrong: u8, other: u8) -> u8
     requires { ⌜ (5 ≤ least) × (1 ≤ wrong) × (1 ≤ other) ⌝ }
-    ensures { λ r. ⌜ first (headRows least wrong other (now (bytes .entry))) ≡ faultRow r 0 ⌝ }
+    ensures { λ r. ⌜ first (headRows least own wrong other (now (bytes .entry))) ≡ faultRow r 0 ⌝ }
 {
     let n = bytes.len();
     if n < least {
@@ -61,7 +62,7 @@ pub fn head_fault(bytes: &[u8], least: usize, wrong: u8, other: u8) -> u8
     if rest != n - 4 {
         return wrong;
     }
-    if bytes[4] != 1 {
+    if bytes[4] != own {
         return other;
     }
     0

@@ -27,28 +27,28 @@ ownRows b = row 15 (not (eqb (lengthField b) (5 + packedSize (countOf b)))) 0 �
 
 pub accepted-log : (b : List ℕ) → first (logRows b) ≡ passed → Log b
 accepted-log b e =
-    let (h, o) = both-passed (headRows 9 15 15 b) (ownRows b) e in
-    let (least, whole, one) = head-passed 9 15 15 b h in
+    let (h, o) = both-passed (headRows 9 1 15 15 b) (ownRows b) e in
+    let (least, whole, one) = head-passed 9 1 15 15 b h in
     let (f, p) = passed-first _ _ o in
     let (u, _) = passed-first _ _ p in
     let rest = eqb-true (lengthField b) (5 + packedSize (countOf b)) (not-false _ f) in
     record { size = omega arith; field = rest; versioned = one; unused = eqb-true (unusedIn b) 0 (not-false _ u) }
 
 module _ (b : List ℕ) where
-  pub log-head : (n v : ℕ) → first (headRows 9 15 15 b) ≡ refused n v → first (logRows b) ≡ refused n v
-  log-head n v h = refused-before (headRows 9 15 15 b) (ownRows b) h
+  pub log-head : (n v : ℕ) → first (headRows 9 1 15 15 b) ≡ refused n v → first (logRows b) ≡ refused n v
+  log-head n v h = refused-before (headRows 9 1 15 15 b) (ownRows b) h
 
-  pub log-length : first (headRows 9 15 15 b) ≡ passed → (lengthField b ≡ 5 + packedSize (countOf b) → ⊥) → first (logRows b) ≡ refused 15 0
+  pub log-length : first (headRows 9 1 15 15 b) ≡ passed → (lengthField b ≡ 5 + packedSize (countOf b) → ⊥) → first (logRows b) ≡ refused 15 0
   unfolding first
-  log-length h n = passed-before (headRows 9 15 15 b) (ownRows b) h ∙ (simp (ne-eqb _ _ n))
+  log-length h n = passed-before (headRows 9 1 15 15 b) (ownRows b) h ∙ (simp (ne-eqb _ _ n))
 
-  pub log-unused : first (headRows 9 15 15 b) ≡ passed → lengthField b ≡ 5 + packedSize (countOf b) → (unusedIn b ≡ 0 → ⊥) → first (logRows b) ≡ refused 16 0
+  pub log-unused : first (headRows 9 1 15 15 b) ≡ passed → lengthField b ≡ 5 + packedSize (countOf b) → (unusedIn b ≡ 0 → ⊥) → first (logRows b) ≡ refused 16 0
   unfolding first
-  log-unused h e n = passed-before (headRows 9 15 15 b) (ownRows b) h ∙ (simp (eq-eqb _ _ e, ne-eqb _ _ n))
+  log-unused h e n = passed-before (headRows 9 1 15 15 b) (ownRows b) h ∙ (simp (eq-eqb _ _ e, ne-eqb _ _ n))
 
-  pub log-right : first (headRows 9 15 15 b) ≡ passed → lengthField b ≡ 5 + packedSize (countOf b) → unusedIn b ≡ 0 → first (logRows b) ≡ passed
+  pub log-right : first (headRows 9 1 15 15 b) ≡ passed → lengthField b ≡ 5 + packedSize (countOf b) → unusedIn b ≡ 0 → first (logRows b) ≡ passed
   unfolding first
-  log-right h e n = passed-before (headRows 9 15 15 b) (ownRows b) h ∙ (simp (eq-eqb _ _ e, eq-eqb _ _ n))
+  log-right h e n = passed-before (headRows 9 1 15 15 b) (ownRows b) h ∙ (simp (eq-eqb _ _ e, eq-eqb _ _ n))
 
 pub passed-log : (b : List ℕ) → Log b → first (logRows b) ≡ passed
-passed-log b l = log-right b (head-right 9 15 15 b (omega arith) (omega arith) (l .versioned)) (l .field) (l .unused)
+passed-log b l = log-right b (head-right 9 1 15 15 b (omega arith) (omega arith) (l .versioned)) (l .field) (l .unused)

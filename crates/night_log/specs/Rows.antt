@@ -25,7 +25,7 @@ unusedIn b = byteAt b (8 + packedSize (countOf b)) % 2 ^ unusedBits (countOf b)
 -- "the log has under 9 bytes, or its length field isn't how many bytes follow it, or its version isn't 1, or its length field isn't 5 and the bytes that its count of outcomes takes"; then "bits of the log that no outcome takes aren't zero"
 abbrev pub logRows : List ℕ → List Row
 logRows b =
-    headRows 9 15 15 b
+    headRows 9 1 15 15 b
     ++ (row 15 (not (eqb (lengthField b) (5 + packedSize (countOf b)))) 0
     ∷ row 16 (not (eqb (unusedIn b) 0)) 0
     ∷ [])

@@ -55,7 +55,7 @@ fn low_bits(byte: u8, n: usize) -> u8
 fn fault(log: &[u8]) -> u8
     ensures { λ r. ⌜ first (logRows (now (log .entry))) ≡ faultRow r 0 ⌝ }
 {
-    let number = layout::head_fault(log, 9, 15, 15);
+    let number = layout::head_fault(log, 9, 1, 15, 15);
     if number != 0 {
         return number;
     }

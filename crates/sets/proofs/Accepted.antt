@@ -100,8 +100,8 @@ pub record Head (b : List ℕ) : Type 0 where
 
 pub passed-head : (b : List ℕ) → first (headRows b) ≡ passed → Head b
 passed-head b e =
-    let (p, q) = both-passed (openingRows 6 1 2 b) _ e in
-    let (n, m, v) = head-says 6 1 2 b p in
+    let (p, q) = both-passed (openingRows 6 1 1 2 b) _ e in
+    let (n, m, v) = head-says 6 1 1 2 b p in
     let (a₃, e₃) = passed-first _ _ q in
     let (a₄, e₄) = passed-first _ _ e₃ in
     let r = eqb-true (lengthField b) (2 + 3 * countOf b) (not-false _ a₄) in

@@ -34,7 +34,7 @@ countRow c = row 3 (eqb c 0 || ltb 8 c) 0
 
 -- 1 and 2, as in every layout; 3; and 4, "the length field of the set isn't 2+3c"
 abbrev pub headRows : List ℕ → List Row
-headRows b = openingRows 6 1 2 b ++ (countRow (countOf b) ∷ row 4 (not (eqb (lengthField b) (2 + 3 * countOf b))) 0 ∷ [])
+headRows b = openingRows 6 1 1 2 b ++ (countRow (countOf b) ∷ row 4 (not (eqb (lengthField b) (2 + 3 * countOf b))) 0 ∷ [])
 
 -- the bytes of a set
 abbrev pub setRows : (widest : ℕ) → List ℕ → List Row

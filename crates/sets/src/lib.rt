@@ -83,7 +83,7 @@ fn test_limits(set: LimitSet, widest: u8) -> SetAnswer
 fn test_head(bytes: &[u8]) -> SetAnswer
     ensures { λ r. ⌜ says r ≡ first (headRows (now (bytes .entry))) ⌝ }
 {
-    let number = layout::head_fault(bytes, 6, 1, 2);
+    let number = layout::head_fault(bytes, 6, 1, 1, 2);
     if number != 0 {
         return SetAnswer::Refused { number, at: 0 };
     }

@@ -40,8 +40,8 @@ pub record Table (b : List ℕ) : Type 0 where
 module _ (b : List ℕ) where
   pub passed-counts : first (countRows b) ≡ passed → Head b
   passed-counts e =
-      let (p, q) = both-passed (headRows 7 10 11 b) _ e in
-      let (l, m, v) = head-passed 7 10 11 b p in
+      let (p, q) = both-passed (headRows 7 1 10 11 b) _ e in
+      let (l, m, v) = head-passed 7 1 10 11 b p in
       let (a₃, e₃) = passed-first _ _ q in
       let (a₄, e₄) = passed-first _ _ e₃ in
       let (h, k) = or-none _ _ a₃ in

@@ -15,7 +15,7 @@ mostStates = 2048
 -- 10 and 11, as in every layout, and the counts in 12
 abbrev pub countRows : List ℕ → List Row
 countRows b =
-    headRows 7 10 11 b
+    headRows 7 1 10 11 b
     ++ (row 12 (eqb (stateCount b) 0 || ltb mostStates (stateCount b)) 0
     ∷ row 12 (not (eqb (lengthField b) (3 + 4 * stateCount b))) 0
     ∷ [])

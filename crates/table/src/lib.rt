@@ -43,7 +43,7 @@ fn pair(bytes: &[u8], at: usize) -> u16
 fn test_counts(bytes: &[u8]) -> TableAnswer
     ensures { λ r. ⌜ (says r ≡ first (countRows (now (bytes .entry)))) × Counts (now (bytes .entry)) r ⌝ }
 {
-    let number = layout::head_fault(bytes, 7, 10, 11);
+    let number = layout::head_fault(bytes, 7, 1, 10, 11);
     if number != 0 {
         return TableAnswer::Refused { number, at: 0 };
     }

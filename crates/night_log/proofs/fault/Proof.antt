@@ -20,11 +20,11 @@ module _ (c : tie.Else1) where
   abbrev b : List ℕ
   b = c .before .before .before .args .log .now
 
-  pub head : first (headRows 9 15 15 b) ≡ passed
+  pub head : first (headRows 9 1 15 15 b) ≡ passed
   head = c .before .head-fault .ensures ∙ no-fault (c .before .head-fault .result) 0 (omega (arith, c .if1 .left))
 
   pub long : 9 ≤ length b
-  long = head-passed 9 15 15 b head .0
+  long = head-passed 9 1 15 15 b head .0
 
 -- past the length field
 module _ (c : tie.Else2) where
@@ -35,7 +35,7 @@ module _ (c : tie.Else2) where
   field = omega (arith, c .before .length-field .ensures, c .before .before .packed-size .ensures, c .before .before .before .four-at .ensures, c .if2 .left)
 
   pub reaches : 8 + packedSize (countOf (b h)) < length (b h)
-  reaches = let (_, e, _) = head-passed 9 15 15 (b h) (head h) in omega (arith, e, field, long h)
+  reaches = let (_, e, _) = head-passed 9 1 15 15 (b h) (head h) in omega (arith, e, field, long h)
 
   pub sized : c .before .before .packed-size .result ≡ packedSize (countOf (b h))
   sized = c .before .before .packed-size .ensures .0 ∙ ap packedSize (c .before .before .before .four-at .ensures .0)

@@ -26,20 +26,20 @@ bytes c = c .before .before .args .bytes .now
 
 -- the head was passed
 long : (c : tie.Else1) → 6 ≤ length (bytes (c .before))
-long c = head-passed 6 _ _ (bytes (c .before)) (c .before .head-fault .ensures ∙ no-fault _ 0 (c .if1 .left)) .0
+long c = head-passed 6 _ _ _ (bytes (c .before)) (c .before .head-fault .ensures ∙ no-fault _ 0 (c .if1 .left)) .0
 
 at-count : (c : tie.After-wide) → countOver (c .before .before .length-field .result) (c .wide .result) ≡ first (headRows (bytes (c .before .before .before .before)))
 at-count c =
     let e = c .before .before .before in
     ap₂ countOver (c .before .before .length-field .ensures .0) (c .wide .ensures .0)
-    ∙ sym (no-fault-before (openingRows 6 1 2 (bytes (e .before))) _ _ 0 (e .before .head-fault .ensures) (e .if1 .left))
+    ∙ sym (no-fault-before (openingRows 6 1 1 2 (bytes (e .before))) _ _ 0 (e .before .head-fault .ensures) (e .if1 .left))
 
 head-fault-requires : tie.Need-head-fault-requires
 head-fault-requires c κs = search needs
 
 returns : tie.Need-returns
 returns c =
-    sym (fault-before (openingRows 6 1 2 (bytes (c .before))) _ _ 0 (c .before .head-fault .ensures) (c .if1 .taken))
+    sym (fault-before (openingRows 6 1 1 2 (bytes (c .before))) _ _ 0 (c .before .head-fault .ensures) (c .if1 .taken))
 
 length-field-requires : tie.Need-length-field-requires
 length-field-requires c κs = omega (arith, long c)
