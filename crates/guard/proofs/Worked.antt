@@ -25,7 +25,7 @@ pub any-hit-1-2-answers :
     × Answers (0 ∷ 2 ∷ []) ask.Panic
     × Answers (0 ∷ 0 ∷ []) ask.Lost
     × Answers (0 ∷ 0 ∷ 1 ∷ []) ask.Lost
-    × (told (0 ∷ 0 ∷ 1 ∷ []) ≡ lostIn 1 (replicate 10 true ++ false ∷ []) 3)
+    × (told (0 ∷ 0 ∷ 1 ∷ []) ≡ lostIn 1 (replicate 14 true ++ false ∷ []) 3)
 unfolding first
 any-hit-1-2-answers = (
   record { refusal = refl; answer = (refl, (1, refl)); guard = refl },

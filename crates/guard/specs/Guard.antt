@@ -1,4 +1,4 @@
--- RULES, The guard: "A guard is a small record by value: the number of a state; whether it is lost; the last 11 outcomes, as truth values, the oldest first; and how many outcomes it was told, a number of 64 bits. It goes into a call and comes out beside the answer".
+-- RULES, The guard: "A guard is a small record by value: the number of a state; whether it is lost; the last 15 outcomes, as truth values, the oldest first; and how many outcomes it was told, a number of 64 bits. It goes into a call and comes out beside the answer".
 use mathlib.Core.Path.{_≡_}
 use mathlib.Core.Option.{Option, none, some}
 use mathlib.Core.Bool.{Bool, true, false, cond}
@@ -22,7 +22,7 @@ use Rattle.guard.specs.declared.TellAnswer.the-variants as tell
 
 -- how many outcomes a guard holds. That it is one less than the longest window is said where limits are known, in `carry`.
 abbrev pub held : ℕ
-held = 11
+held = 15
 
 -- the largest count
 abbrev pub mostTold : ℕ
@@ -32,7 +32,7 @@ mostTold = 18446744073709551615
 abbrev pub standing : (s : ℕ) → List Bool → (count : ℕ) → Guard
 standing s os n = record { state = s; lost = false; outcomes = os; count = n }
 
--- "A guard with nothing told isn't lost, is in state 0, holds 11 hits and has the count 0."
+-- "A guard with nothing told isn't lost, is in state 0, holds 15 hits and has the count 0."
 abbrev pub fresh : Guard
 fresh = standing 0 (replicate held true) 0
 

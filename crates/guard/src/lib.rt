@@ -16,7 +16,7 @@ use table::Moves;
 use table::TableAnswer;
 
 // How many outcomes a guard holds: one less than the longest window. `carry`, which sees both, proves that they agree.
-pub const HELD: usize = 11;
+pub const HELD: usize = 15;
 
 // The largest count of outcomes told.
 const MOST_TOLD: u64 = 18446744073709551615;

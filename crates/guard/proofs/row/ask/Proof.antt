@@ -161,12 +161,12 @@ module _ {M : Type 1} (𝓤 : URA M) (H : Heap 𝓤) (A : Atoms 𝓤) (W : Given
         by ! (exits (answers.Refused 14 0) _ is-14 (ask-outside ys job (table .now) (sym (refusing .0) ∙ is-true r out))))
         (λ inside.
         let within : (job < length ys) × (job < mostGuards) = refusing .1 (is-false r inside) in
-        let offset-fits : job * 24 < 2 ^ 64 = omega (arith, within .1) in
+        let offset-fits : job * 32 < 2 ^ 64 = omega (arith, within .1) in
         let E : Env 𝓤 H = at-places (code.function .locals) (l₀ ∷ l₁ ∷ l₂ ∷ l₃ ∷ l₄ ∷ l₅ ∷ l₆ ∷ l₇ ∷ l₈ ∷ []) in
         skips ! $ exec ! C Λ E body.t-4 (atRet E Post) $
         assigns ! (bin ! (load ! (from ! (stop !)) (look ! 12 refl)) (lit ! tt) (record { fits = offset-fits })) (from ! (stop !)) (store ! 4 refl (tt, record { fits = offset-fits })) $
         assigns ! (bin ! (load ! (from ! (fld ! refl (stop !))) (look-in ! 14 (sub ! 0 refl (whole !)))) (load ! (from ! (stop !)) (look ! 4 refl)) tt) (from ! (stop !)) (init ! 2 refl (tt, tt)) $
-        rewrite ! 2 (λ (p : ℕ). ‵ (fat fullShare tyPtr l₇ 0 (vptr b p))) (sym (place-is 24 o job)) refl $
+        rewrite ! 2 (λ (p : ℕ). ‵ (fat fullShare tyPtr l₇ 0 (vptr b p))) (sym (place-is 32 o job)) refl $
         -- the row is looked into, and stays
         move ! (18 ∷ []) $ use1 W (‵ Row ⊛ ‵ Row) (shr-slice-copy 𝓤 H A W (named 0) κ G.the-row .twice x (s ∷ [])) $ split ! $ fsplit ! $ move ! (1 ∷ []) $ fsplit ! $ move ! (1 ∷ 22 ∷ []) $
         looks-slice ! tt G.the-row (Is G.the-row) (shows 𝓤 H A G.the-row) (LL.vals G.the-type G′.the-laws) (LL.tells G.the-type G′.the-laws) (LL.copy G.the-type G′.the-copy 𝓤 H A W) ys b o (λ part.

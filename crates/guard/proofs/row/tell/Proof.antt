@@ -164,12 +164,12 @@ module _ {M : Type 1} (𝓤 : URA M) (H : Heap 𝓤) (A : Atoms 𝓤) (W : Given
         by ! (exits (answers.Refused 14 0) _ ys is-14 (tell-outside ys job (table .now) (sym (refusing .0) ∙ is-true r out) byte) refl))
         (λ inside.
         let within : (job < length ys) × (job < mostGuards) = refusing .1 (is-false r inside) in
-        let offset-fits : job * 24 < 2 ^ 64 = omega (arith, within .1) in
+        let offset-fits : job * 32 < 2 ^ 64 = omega (arith, within .1) in
         let E : Env 𝓤 H = at-places (code.function .locals) (l₀ ∷ l₁ ∷ l₂ ∷ l₃ ∷ l₄ ∷ l₅ ∷ l₆ ∷ l₇ ∷ l₈ ∷ l₉ ∷ l₁₀ ∷ []) in
         skips ! $ exec ! C Λ E body.t-4 (atRet E Post) $
         assigns ! (bin ! (load ! (from ! (stop !)) (look ! 16 refl)) (lit ! tt) (record { fits = offset-fits })) (from ! (stop !)) (store ! 6 refl (tt, record { fits = offset-fits })) $
         assigns ! (bin ! (load ! (from ! (fld ! refl (stop !))) (look-in ! 18 (sub ! 0 refl (whole !)))) (load ! (from ! (stop !)) (look ! 6 refl)) tt) (from ! (stop !)) (init ! 4 refl (tt, tt)) $
-        rewrite ! 4 (λ (p : ℕ). ‵ (fat fullShare tyPtr l₈ 0 (vptr b p))) (sym (place-is 24 o job)) refl $
+        rewrite ! 4 (λ (p : ℕ). ‵ (fat fullShare tyPtr l₈ 0 (vptr b p))) (sym (place-is 32 o job)) refl $
         move ! (22 ∷ 23 ∷ 24 ∷ []) $ opens-slice ! tt G.the-row ys b o $
         elem-out ! G.the-row (Is G.the-row) (shows 𝓤 H A G.the-row) (LL.vals G.the-type G′.the-laws) (LL.tells G.the-type G′.the-laws) fullShare ys job fresh b o (within .0) (λ is-elem.
         -- [row[job]; what it owns; the others; the open borrow; obs; auth; the locals from 6 on; the table's token; the table]
@@ -185,7 +185,7 @@ module _ {M : Type 1} (𝓤 : URA M) (H : Heap 𝓤) (A : Atoms 𝓤) (W : Given
         -- [the table's token; true; the table; row[job]; what it owned; the others; the open borrow; obs; auth; the locals from 9 on]
         assigns ! (bin ! (load ! (from ! (stop !)) (look ! 25 refl)) (lit ! tt) (record { fits = offset-fits })) (from ! (stop !)) (store ! 15 refl (tt, record { fits = offset-fits })) $
         assigns ! (bin ! (load ! (from ! (fld ! refl (stop !))) (look-in ! 27 (sub ! 0 refl (whole !)))) (load ! (from ! (stop !)) (look ! 15 refl)) tt) (from ! (stop !)) (init ! 9 refl (tt, tt)) $
-        rewrite ! 9 (λ (p : ℕ). ‵ (fat fullShare tyPtr l₁₀ 0 (vptr b p))) (sym (place-is 24 o job)) refl $
+        rewrite ! 9 (λ (p : ℕ). ‵ (fat fullShare tyPtr l₁₀ 0 (vptr b p))) (sym (place-is 32 o job)) refl $
         assigns ! (of-opd ! (load ! (from ! (fld ! refl (stop !))) (look-in ! 19 (sub ! 1 {d = 16} refl (whole !))))) (from ! (hop ! (look ! 9 refl) (stop !))) (store-raw ! 3 refl (LL.lawful G.the-type G′.the-laws 𝓤 H A W .typed (d .guard) _ (fields .1 .0) .0)) $
         assigns ! (of-opd ! (load ! (from ! (fld ! refl (stop !))) (look-in ! 19 (sub ! 0 refl (whole !))))) (from ! (stop !)) (init ! 29 refl (EL.lawful S.the-type S′.the-laws 𝓤 H A W tt .typed (d .answer) _ (fields .0) .0)) $
         -- the borrow is closed at the row with the guard that came back
