@@ -2,14 +2,15 @@
 use mathlib.Core.Path.{_≡_, refl, sym, ap, _∙_}
 use mathlib.Core.Option.{Option, none, some, Option·none-ne-some}
 use mathlib.Core.Bool.{Bool, true, false, true≢false}
-use mathlib.Core.List.{List, [], _∷_}
-use Prim.Native.Nat.{ℕ, suc, _+_, _≤_}
+use mathlib.Core.List.{List, [], _∷_, _++_}
+use Prim.Native.Nat.{ℕ, zero, suc, _+_, _≤_}
 use native.Mathlib.Omega.{arith}
 use borrow.Author.Tests.{ltb-false}
-use lib.ListN.{length, length-map}
+use lib.ListN.{length, replicate, length-map}
 use Rattle.layout.specs.Refusal.{passed, first}
 use Rattle.layout.proofs.Rows.{passed-first}
-use Rattle.patterns.specs.Outcome.{outcome, outcomes, outcomeRows}
+use Rattle.patterns.specs.Outcome.{outcome, outcomes, outcomeRows, AllOutcomes}
+use Rattle.patterns.proofs.Outcomes.{outcomes-passed}
 use Rattle.machines.specs.Machine.{Machine, walk}
 use Rattle.table.specs.Bytes.{machineOf}
 use Rattle.table.specs.Rows.{tableRows}
@@ -29,6 +30,16 @@ all-heard n [] i e h = heard-none n
 all-heard n (byte ∷ bytes) i e h =
     let (f, g) = passed-first _ _ e in
     heard-one n byte bytes (ltb-false 1 byte f) (omega arith) ∙ ap (λ l. outcome byte ∷ l) (all-heard (n + 1) bytes (suc i) g (omega arith))
+
+-- bytes that 13 lets pass, after hits
+pub hits-passed : (d i : ℕ) (bytes : List ℕ) → AllOutcomes bytes → first (outcomeRows (replicate d 1 ++ bytes) i) ≡ passed
+unfolding outcomeRows first
+hits-passed zero i bytes all = outcomes-passed bytes i .1 all
+hits-passed (suc d) i bytes all = hits-passed d (suc i) bytes all
+
+pub hits-outcomes : (d : ℕ) (bytes : List ℕ) → outcomes (replicate d 1 ++ bytes) ≡ replicate d true ++ outcomes bytes
+hits-outcomes zero bytes = refl
+hits-outcomes (suc d) bytes = ap (λ l. true ∷ l) (hits-outcomes d bytes)
 
 module _ (b : List ℕ) (checked : first (tableRows b) ≡ passed) (bytes : List ℕ) (all : first (outcomeRows bytes 0) ≡ passed) (hs : List Bool) (many : length bytes ≡ length hs) (few : 0 + length bytes ≤ mostTold) where
   abbrev m : Machine

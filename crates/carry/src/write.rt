@@ -6,22 +6,28 @@ ghost use Prim.Native.Nat.{_+_, _≤_, _<_};
 ghost use lib.ListN.{length, take, drop};
 ghost use Rattle.patterns.specs.Outcome.{bit};
 ghost use Rattle.meaning.specs.Longest.{longest};
-ghost use Rattle.carry.specs.Bytes.{carried, headBytes, tailBytes, tailSize};
+ghost use Rattle.carry.specs.Bytes.{carried, newVersion, headBytes, tailBytes, tailSize};
 ghost use Rattle.carry.specs.Write.{RecordWrittenAs};
-use super::AROUND;
-use super::TAIL;
+use super::AFTER;
+use super::VERSION;
 use guard::Guard;
 use guard::HELD;
 use layout::WriteAnswer;
 use sets::SetAnswer;
 
+// What stands after the set's bytes: the outcomes, the count and the lost byte.
+const TAIL: usize = HELD + AFTER;
+
+// All that stands around the set's bytes.
+const AROUND: usize = 5 + TAIL;
+
 // The length field, the version and the set's bytes.
 fn put_set(set: &[u8], out: &mut [u8])
     requires { ⌜ (length (now set) < 256) × (5 + length (now set) ≤ length (now out)) ⌝ }
-    ensures { λ _. ⌜ now (out .exit) ≡ headBytes carried (now (set .entry)) ++ drop (5 + length (now (set .entry))) (now (out .entry)) ⌝ }
+    ensures { λ _. ⌜ now (out .exit) ≡ headBytes newVersion carried (now (set .entry)) ++ drop (5 + length (now (set .entry))) (now (out .entry)) ⌝ }
 {
     layout::put_four(out, 0, 1 + set.len() + TAIL);
-    out[4] = 1;
+    out[4] = VERSION;
     let mut i = 0;
     while i < set.len() {
         out[5 + i] = set[i];

@@ -36,11 +36,11 @@ put-then d vs ws at k l h e =
     put-next d (take at d ++ vs) ws (at + k) l (length-append (take at d) vs ∙ ap₂ (λ a b. a + b) (length-take-le at d h) e)
     ∙ ap (λ z. z ++ drop (at + k + l) d) (append-assoc (take at d) vs ws)
 
--- a number of four bytes, the version and then s, at the start of a buffer
-pub put-after-head : (d four s : List ℕ) (m n : ℕ) → 5 ≤ length d → four ≡ take 0 d ++ fourBytes m ++ drop 4 d
-    → take 5 (set four 4 1) ++ s ++ drop (5 + n) (set four 4 1) ≡ fourBytes m ++ (1 ∷ s) ++ drop (5 + n) d
-put-after-head d four s m n h e =
-    ap (λ z. take 5 (set z 4 1) ++ s ++ drop (5 + n) (set z 4 1)) (e ∙ ap (λ z. fourBytes m ++ z) (drop-cons d 4 0 (omega arith))) ∙ put-next d (fourBytes m ++ 1 ∷ []) s 5 n refl
+-- a number of four bytes, the version v and then s, at the start of a buffer
+pub put-after-head : (d four s : List ℕ) (m v n : ℕ) → 5 ≤ length d → four ≡ take 0 d ++ fourBytes m ++ drop 4 d
+    → take 5 (set four 4 v) ++ s ++ drop (5 + n) (set four 4 v) ≡ fourBytes m ++ (v ∷ s) ++ drop (5 + n) d
+put-after-head d four s m v n h e =
+    ap (λ z. take 5 (set z 4 v) ++ s ++ drop (5 + n) (set z 4 v)) (e ∙ ap (λ z. fourBytes m ++ z) (drop-cons d 4 0 (omega arith))) ∙ put-next d (fourBytes m ++ v ∷ []) s 5 n refl
 
 -- the first i bytes of s stand in a buffer d from a place on
 pub record Pasted (d : List ℕ) (at : ℕ) (s : List ℕ) (i : ℕ) (out : List ℕ) : Type 0 where

@@ -5,7 +5,7 @@ use native.Mathlib.Omega.{arith}
 use borrow.Author.Needs.{needs}
 use lib.ListN.{length, length-set}
 use Rattle.layout.proofs.Runs.{put-after-head, Pasted, pasted-none, pasted-turn, pasted-all}
-use Rattle.carry.specs.Bytes.{carried, tailSize}
+use Rattle.carry.specs.Bytes.{newVersion, carried, tailSize}
 use Rattle.carry.proofs.write.put_set.Statement.{statement}
 use Rattle.carry.proofs.write.put_set.Tie as tie
 
@@ -58,7 +58,7 @@ returns c =
     let s = p .before .before .before .before in
     let b = s .args .set .now in
     pasted-all (l .inv .2) (length b) (omega arith) refl
-    ∙ put-after-head (s .args .out .now) (p .put-four .last .0) b (1 + length b + tailSize carried) (length b) (omega arith) (p .put-four .ensures)
+    ∙ put-after-head (s .args .out .now) (p .put-four .last .0) b (1 + length b + tailSize carried) newVersion (length b) (omega arith) (p .put-four .ensures)
 
 pub put-set-spec : {M : Type 1} → statement M
 put-set-spec =

@@ -13,7 +13,7 @@ use Rattle.meaning.specs.Longest.{longest}
 use Rattle.sets.specs.Rows.{setRows}
 use Rattle.sets.proofs.Accepted.{Head, accepted-head}
 use Rattle.sets.proofs.Reading.{refused-rows, accepted-rows}
-use Rattle.carry.specs.Bytes.{carried, headBytes, tailBytes, tailSize, sizeOf}
+use Rattle.carry.specs.Bytes.{newVersion, carried, headBytes, tailBytes, tailSize, sizeOf}
 use Rattle.carry.proofs.write.write_record.Statement.{statement}
 use Rattle.carry.proofs.write.write_record.Tie as tie
 
@@ -78,8 +78,8 @@ returns-3 c =
     (passed-before _ _ (at-room h) ∙ long-enough _ _ _ _ (i .if1 .left)) refl refl
     (q .put-guard .ensures
     ∙ ap (λ o. take (5 + n) o ++ tailBytes (s .guard) ++ drop (5 + n + tailSize carried) o) (p .put-set .ensures)
-    ∙ put-next (s .out .now) (headBytes carried set) (tailBytes (s .guard)) (5 + n) (tailSize carried) (omega arith)
-    ∙ ap (λ k. headBytes carried set ++ tailBytes (s .guard) ++ drop k (s .out .now)) whole)
+    ∙ put-next (s .out .now) (headBytes newVersion carried set) (tailBytes (s .guard)) (5 + n) (tailSize carried) (omega arith)
+    ∙ ap (λ k. headBytes newVersion carried set ++ tailBytes (s .guard) ++ drop k (s .out .now)) whole)
 
 pub write-record-spec : {M : Type 1} → statement M
 write-record-spec =

@@ -36,7 +36,7 @@ returns c =
     let p = c .before .before .before .before .before .before in
     let s = p .before .before .before .before in
     c .before .before .put-four2 .ensures
-    ∙ put-after-head (s .args .out .now) (p .put-four .last .0) (fourBytes (s .args .count)) (5 + packedSize (s .args .count)) 4 (omega arith)
+    ∙ put-after-head (s .args .out .now) (p .put-four .last .0) (fourBytes (s .args .count)) (5 + packedSize (s .args .count)) 1 4 (omega arith)
     (p .put-four .ensures ∙ ap (λ z. fourBytes (5 + z) ++ drop 4 (s .args .out .now)) (p .before .packed-size .ensures .0))
 
 pub put-head-spec : {M : Type 1} → statement M
