@@ -1,5 +1,5 @@
 -- The bytes of a machine pass the check and write that machine: a byte is told by its place, in the head's seven or in the two pairs of a state. Assumes nothing.
-use mathlib.Core.Path.{_≡_, refl, sym, _∙_}
+use mathlib.Core.Path.{_≡_, refl, sym, ap, _∙_}
 use mathlib.Core.Option.{Option, none, some}
 use mathlib.Core.Bool.{Bool, true, false}
 use mathlib.Core.List.{List, []}
@@ -11,6 +11,7 @@ use lib.ListN.{length}
 use lib.Seq.{getD-append-add}
 use Rattle.layout.specs.Bytes.{byteAt}
 use Rattle.layout.specs.Refusal.{passed, first}
+use Rattle.layout.proofs.Numbers.{four-number}
 use Rattle.machines.specs.Machine.{Machine}
 use Rattle.machines.specs.Canonical.{OneTable}
 use Rattle.table.specs.Bytes.{sizeOf, pairAt, stateCount, missEntry, hitEntry, noMiss, nextIn, machineOf, entryOf, rowBytes, headThen, bytesOf}
@@ -69,7 +70,7 @@ module _ (m : Machine) where
         let (t, e) = w .hit-allowed s h in
         cc (entries-at s h .1)
 
-    next-small : (s t : ℕ) (o : Bool) → s < n → m .next s o ≡ some t → t < 2048
+    next-small : (s t : ℕ) (o : Bool) → s < n → m .next s o ≡ some t → t < 32768
     next-small s t o h e = omega (arith, w .most, w .well-made .next-below s t o h e)
 
     miss-read : (s : ℕ) → s < n → m .next s false ≡ nextIn b s false
@@ -95,7 +96,7 @@ module _ (m : Machine) where
     table-of-bytes = record {
       counts = record {
         whole = omega (arith, length-rows 0 n);
-        rest = omega (arith, w .most);
+        rest = four-number (3 + 4 * n) ∙ sym (ap (λ k. 3 + 4 * k) count-of-bytes);
         one = refl;
         some-state = omega (arith, w .well-made .start-below);
         most = omega (arith, w .most);

@@ -1,4 +1,4 @@
--- RULES, Bytes of a table: "the length field, 3+4n", "the version, 1", "n, how many states there are, 1 to 2,048", and for each state "two for the state that follows on a miss, two for the one that follows on a hit". "FF FF as the state that follows on a miss says that no miss is allowed there. A hit is allowed in every state". "In all 7+4n bytes".
+-- RULES, Bytes of a table: "the length field, 3+4n", "the version, 1", "n, how many states there are, 1 to 32,768", and for each state "two for the state that follows on a miss, two for the one that follows on a hit". "FF FF as the state that follows on a miss says that no miss is allowed there. A hit is allowed in every state". "In all 7+4n bytes".
 use mathlib.Core.Option.{Option, none, some}
 use mathlib.Core.Bool.{Bool, true, false, cond}
 use mathlib.Core.List.{List, [], _∷_, _++_}

@@ -8,9 +8,9 @@ use Rattle.layout.specs.Refusal.{Row, row}
 use Rattle.layout.specs.Head.{headRows}
 use Rattle.table.specs.Bytes.{stateCount, missEntry, hitEntry, noMiss}
 
--- "n is 0 or more than 2,048"
+-- "n is 0 or more than 32,768"
 abbrev pub mostStates : ℕ
-mostStates = 2048
+mostStates = 32768
 
 -- 10 and 11, as in every layout, and the counts in 12
 abbrev pub countRows : List ℕ → List Row

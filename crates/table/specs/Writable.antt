@@ -1,4 +1,4 @@
--- The machines that a table's bytes can write. RULES: "The start is state 0", "n, how many states there are, 1 to 2,048", "A hit is allowed in every state".
+-- The machines that a table's bytes can write. RULES: "The start is state 0", "n, how many states there are, 1 to 32,768", "A hit is allowed in every state".
 use mathlib.Core.Path.{_≡_}
 use mathlib.Core.Option.{some}
 use mathlib.Core.Bool.{true}
