@@ -3,6 +3,7 @@ use mathlib.Core.Path.{_≡_, refl, sym, ap, _∙_, subst}
 use mathlib.Core.Option.{none}
 use mathlib.Core.List.{List, [], _∷_, _++_}
 use Prim.Native.Nat.{ℕ, _≤_, _<_}
+use native.Mathlib.Omega.{arith}
 use lib.ListN.{length, drop}
 use Rattle.layout.specs.Refusal.{passed, refused, first}
 use Rattle.layout.specs.Write.{roomRow, lengthWhen}
@@ -17,18 +18,22 @@ use Rattle.table.specs.Bytes.{bytesOf, sizeOf}
 use Rattle.classes.specs.Area.{areaSize, Within}
 use Rattle.builder.specs.declared.BuildAnswer.{BuildAnswer}
 use Rattle.builder.specs.declared.BuildAnswer.the-variants.{Built, Refused}
-use Rattle.builder.specs.Build.{areaRow, earlyRows, Cleared, WorkAfter, tableWhen, BuiltAs}
-use Rattle.builder.specs.Steps.{BuildsTable}
+use Rattle.builder.specs.Build.{areaRow, earlyRows, ClearedTo, Cleared, WorkAfter, tableWhen, BuiltAs}
+use Rattle.builder.specs.Steps.{Histories, BuildsTable}
+use Rattle.builder.proofs.Windows.{area-suffices}
 
-pub clear-within : (a b c : List ℕ) → Within a b → Cleared b c → Cleared a c
-clear-within a b c f g = record {
-  length-stays = g .length-stays ∙ f .length-stays;
-  zero = g .zero;
-  beyond = λ k h. g .beyond k h ∙ f .beyond k h;
-}
+-- what the histories of a set took is cleared with the rest of the area
+pub clear-within : (widest m n size : ℕ) (a b c : List ℕ) → size ≡ areaSize widest → Histories m n → m < widest → Within n a b → ClearedTo size b c → Cleared widest a c
+clear-within widest m n size a b c e h l f g =
+    let enough = area-suffices widest m n h l in
+    record {
+      length-stays = g .length-stays ∙ f .length-stays;
+      zero = λ k i. g .zero k (omega arith);
+      beyond = λ k i. g .beyond k (omega arith) ∙ f .beyond k (omega arith);
+    }
 
-module _ (s : LimitSet) (work work′ table : List ℕ) (m : Machine) (canonical : Canonical m (KeptBy s)) (cleared : Cleared work work′) where
-  pub short-table : length table < sizeOf (m .states) → BuildsTable s work work′ table table (Refused 9 (sizeOf (m .states))) m
+module _ (widest : ℕ) (s : LimitSet) (work work′ table : List ℕ) (m : Machine) (canonical : Canonical m (KeptBy s)) (cleared : Cleared widest work work′) where
+  pub short-table : length table < sizeOf (m .states) → BuildsTable widest s work work′ table table (Refused 9 (sizeOf (m .states))) m
   short-table h =
       let e = too-short 9 (sizeOf (m .states)) (length table) (sizeOf (m .states)) h in
       record {
@@ -39,7 +44,7 @@ module _ (s : LimitSet) (work work′ table : List ℕ) (m : Machine) (canonical
         table-after = sym (ap (λ z. tableWhen z m table) e);
       }
 
-  pub whole-table : (table′ : List ℕ) → sizeOf (m .states) ≤ length table → table′ ≡ bytesOf m ++ drop (sizeOf (m .states)) table → BuildsTable s work work′ table table′ (Built (sizeOf (m .states))) m
+  pub whole-table : (table′ : List ℕ) → sizeOf (m .states) ≤ length table → table′ ≡ bytesOf m ++ drop (sizeOf (m .states)) table → BuildsTable widest s work work′ table table′ (Built (sizeOf (m .states))) m
   whole-table table′ h q =
       let e = long-enough 9 (sizeOf (m .states)) (length table) (sizeOf (m .states)) h in
       record {
@@ -64,29 +69,29 @@ module _ (widest : ℕ) (set work table : List ℕ) where
           canonical = λ p. absurd (passed-not-refused (sym p ∙ e));
           answer = sym f;
           returned = sym (ap (λ z. lengthWhen z size) f);
-          work-after = subst (λ z. WorkAfter z work work) (sym e) refl;
+          work-after = subst (λ z. WorkAfter widest z work work) (sym e) refl;
           table-after = sym (ap (λ z. tableWhen z no-machine table) f);
         },
       )
 
   pub refused-set : (n v : ℕ) → first (setRows widest set) ≡ refused n v → BuiltAs widest set work work table table (Refused n v)
-  refused-set n v e = refused-early n v (refused-before _ (areaRow work ∷ []) e)
+  refused-set n v e = refused-early n v (refused-before _ (areaRow widest work ∷ []) e)
 
-  pub refused-area : first (setRows widest set) ≡ passed → length work < areaSize → BuiltAs widest set work work table table (Refused 8 0)
-  refused-area e h = refused-early 8 0 (passed-before _ (areaRow work ∷ []) e ∙ too-short 8 0 (length work) areaSize h)
+  pub refused-area : first (setRows widest set) ≡ passed → length work < areaSize widest → BuiltAs widest set work work table table (Refused 8 0)
+  refused-area e h = refused-early 8 0 (passed-before _ (areaRow widest work ∷ []) e ∙ too-short 8 0 (length work) (areaSize widest) h)
 
-  pub built-table : (work′ table′ : List ℕ) (r : BuildAnswer) → first (setRows widest set) ≡ passed → areaSize ≤ length work
-      → (m : Machine) × BuildsTable (setOf set) work work′ table table′ r m → BuiltAs widest set work work′ table table′ r
+  pub built-table : (work′ table′ : List ℕ) (r : BuildAnswer) → first (setRows widest set) ≡ passed → areaSize widest ≤ length work
+      → (m : Machine) × BuildsTable widest (setOf set) work work′ table table′ r m → BuiltAs widest set work work′ table table′ r
   built-table work′ table′ r e h (m, b) =
       let size = sizeOf (m .states) in
-      let p : first (earlyRows widest set work) ≡ passed = passed-before _ (areaRow work ∷ []) e ∙ long-enough 8 0 (length work) areaSize h in
+      let p : first (earlyRows widest set work) ≡ passed = passed-before _ (areaRow widest work ∷ []) e ∙ long-enough 8 0 (length work) (areaSize widest) h in
       let f = passed-before (earlyRows widest set work) (roomRow table size ∷ []) p in (
         m,
         record {
           canonical = λ q. b .canonical;
           answer = b .answer ∙ sym f;
           returned = b .returned ∙ sym (ap (λ z. lengthWhen z size) f);
-          work-after = subst (λ z. WorkAfter z work work′) (sym p) (b .cleared);
+          work-after = subst (λ z. WorkAfter widest z work work′) (sym p) (b .cleared);
           table-after = b .table-after ∙ sym (ap (λ z. tableWhen z m table) f);
         },
       )

@@ -4,8 +4,10 @@ use mathlib.Core.Logic.{_↔_}
 use mathlib.Core.Option.{some}
 use mathlib.Core.Bool.{Bool, true}
 use mathlib.Core.List.{List, [], _∷_, _++_}
-use Prim.Native.Nat.{ℕ, _-_, _≤_, _<_}
+use Prim.Native.Nat.{ℕ, suc, _-_, _^_, _≤_, _<_}
+use native.Mathlib.Omega.{arith}
 use lib.ListN.{take, drop}
+use lib.Pow.{pow-mono}
 use lib.Seq.{take-at}
 use Rattle.layout.specs.Refusal.{passed, first}
 use Rattle.layout.specs.Write.{roomRow, lengthWhen}
@@ -25,22 +27,22 @@ use Rattle.sets.specs.Bytes.{setOf}
 use Rattle.sets.specs.Rows.{setRows}
 use Rattle.sets.proofs.Accepted.{accepted-allowed}
 use Rattle.table.specs.Bytes.{machineOf, bytesOf, sizeOf}
-use Rattle.table.specs.Rows.{tableRows, mostStates}
+use Rattle.table.specs.Rows.{tableRows}
 use Rattle.table.specs.Writable.{Writable}
 use Rattle.table.proofs.Bytes.{machine-of-bytes, bytes-checked, bytes-length}
 use Rattle.builder.specs.declared.BuildAnswer.the-variants.{Built}
 use Rattle.builder.specs.Build.{areaRow, earlyRows, buildRows, tableWhen, BuiltAs}
+use Rattle.builder.proofs.Windows.{some-window}
 
-module _ (s : LimitSet) (ok : SetAllowed longest s) (m : Machine) (canonical : Canonical m (KeptBy s)) where
+module _ (widest : ℕ) (s : LimitSet) (ok : SetAllowed widest s) (m : Machine) (canonical : Canonical m (KeptBy s)) where
   abbrev source : Machine
-  source = historyMachine s (longest - 1)
+  source = historyMachine s (widest - 1)
 
   pub walked-by-histories : (p : List Bool) → Walks source p ↔ KeptBy s p
-  walked-by-histories = kept-walked s (longest - 1) ok
+  walked-by-histories = let e : widest ≡ suc (widest - 1) = omega (arith, some-window widest s ok) in kept-walked s (widest - 1) (subst (λ w. SetAllowed w s) e ok)
 
-  -- RULES, Bytes of a table: "n, how many states there are, 1 to 2,048"
-  pub no-more-states : m .states ≤ mostStates
-  no-more-states = canonical-fewest m source (KeptBy s) canonical (history-well-made s (longest - 1)) walked-by-histories
+  pub no-more-states : m .states ≤ 2 ^ (widest - 1)
+  no-more-states = canonical-fewest m source (KeptBy s) canonical (history-well-made s (widest - 1)) walked-by-histories
 
   -- RULES, Bytes of a table: "A hit is allowed in every state"
   hit-allowed : (t : ℕ) → t < m .states → (u : ℕ) × (m .next t true ≡ some u)
@@ -49,36 +51,34 @@ module _ (s : LimitSet) (ok : SetAllowed longest s) (m : Machine) (canonical : C
       let (u, e) = canonical .exact (p ++ true ∷ []) .1 (kept-by-hit s p (canonical .exact p .0 (t, first-to .reaches))) in
       (u, sym (walk-snoc m (m .start) t p true (first-to .reaches)) ∙ e)
 
-  pub canonical-writable : Writable m
-  canonical-writable = record {
+  -- RULES, Bytes of a table: "n, how many states there are, 1 to 32,768"
+  pub canonical-writable : widest ≤ longest → Writable m
+  canonical-writable within = record {
     well-made = canonical .well-made;
     starts-at-0 = canonical .starts-at-0;
-    most = no-more-states;
+    most = let short : widest - 1 ≤ longest - 1 = omega arith in omega (arith, no-more-states, pow-mono short);
     hit-allowed = hit-allowed;
   }
 
 -- what a build that wasn't refused says
-module _ (set work work′ table table′ : List ℕ) (size : ℕ) (built : BuiltAs longest set work work′ table table′ (Built size)) where
+module _ (widest : ℕ) (set work work′ table table′ : List ℕ) (size : ℕ) (built : BuiltAs widest set work work′ table table′ (Built size)) where
   abbrev m : Machine
   m = built .0
 
-  all-passed : first (buildRows longest set work table (sizeOf (m .states))) ≡ passed
+  all-passed : first (buildRows widest set work table (sizeOf (m .states))) ≡ passed
   all-passed = sym (built .1 .answer)
 
-  early-passed : first (earlyRows longest set work) ≡ passed
-  early-passed = both-passed (earlyRows longest set work) (roomRow table (sizeOf (m .states)) ∷ []) all-passed .0
+  early-passed : first (earlyRows widest set work) ≡ passed
+  early-passed = both-passed (earlyRows widest set work) (roomRow table (sizeOf (m .states)) ∷ []) all-passed .0
 
-  pub built-accepted : first (setRows longest set) ≡ passed
-  built-accepted = both-passed (setRows longest set) (areaRow work ∷ []) early-passed .0
+  pub built-accepted : first (setRows widest set) ≡ passed
+  built-accepted = both-passed (setRows widest set) (areaRow widest work ∷ []) early-passed .0
 
-  pub built-allowed : SetAllowed longest (setOf set)
-  built-allowed = accepted-allowed longest set built-accepted
+  pub built-allowed : SetAllowed widest (setOf set)
+  built-allowed = accepted-allowed widest set built-accepted
 
   pub built-canonical : Canonical m (KeptBy (setOf set))
   built-canonical = built .1 .canonical early-passed
-
-  built-writable : Writable m
-  built-writable = canonical-writable (setOf set) built-allowed m built-canonical
 
   built-size : size ≡ sizeOf (m .states)
   built-size = built .1 .returned ∙ ap (λ z. lengthWhen z (sizeOf (m .states))) all-passed
@@ -92,8 +92,13 @@ module _ (set work work′ table table′ : List ℕ) (size : ℕ) (built : Buil
       ap₂ take built-size (built .1 .table-after ∙ ap (λ z. tableWhen z m table) all-passed)
       ∙ take-at (bytesOf m) (drop (sizeOf (m .states)) table) (sizeOf (m .states)) (bytes-length m)
 
-  pub built-checked : first (tableRows bytes) ≡ passed
-  built-checked = subst (λ z. first (tableRows z) ≡ passed) (sym built-bytes) (bytes-checked m built-writable)
+  -- within the windows of the library
+  module _ (within : widest ≤ longest) where
+    built-writable : Writable m
+    built-writable = canonical-writable widest (setOf set) built-allowed m built-canonical within
 
-  pub built-one-table : OneTable (machineOf bytes) m
-  built-one-table = subst (λ z. OneTable (machineOf z) m) (sym built-bytes) (machine-of-bytes m built-writable)
+    pub built-checked : first (tableRows bytes) ≡ passed
+    built-checked = subst (λ z. first (tableRows z) ≡ passed) (sym built-bytes) (bytes-checked m built-writable)
+
+    pub built-one-table : OneTable (machineOf bytes) m
+    built-one-table = subst (λ z. OneTable (machineOf z) m) (sym built-bytes) (machine-of-bytes m built-writable)

@@ -1,5 +1,5 @@
 -- From the numbered classes to the canonical machine: the machine that was numbered walks what the history machine walks, and that is what the set keeps. Assumes nothing.
-use mathlib.Core.Path.{refl, sym, _∙_, subst}
+use mathlib.Core.Path.{refl, sym, subst}
 use mathlib.Core.List.{List}
 use Prim.Native.Nat.{ℕ, _^_, _≤_}
 use native.Mathlib.Omega.{arith}
@@ -10,27 +10,21 @@ use Rattle.meaning.specs.declared.LimitSet.{LimitSet}
 use Rattle.meaning.specs.Sets.{KeptBy}
 use Rattle.history.specs.Machine.{historyMachine}
 use Rattle.history.proofs.Walked.{kept-walked}
-use Rattle.classes.specs.Area.{region, areaSize, Within}
+use Rattle.classes.specs.Area.{used, high, Within}
 use Rattle.classes.specs.Classed.{Classed}
+use Rattle.classes.proofs.Keeping.{within-trans}
 use Rattle.numbering.specs.Numbered.{numberedMachine}
 use Rattle.numbering.specs.Work.{NumberedFrom}
 use Rattle.numbering.proofs.Classes.{classed-kept}
 use Rattle.numbering.proofs.OneResult.{numbered-canonical}
 use Rattle.builder.specs.Steps.{Reaches, Histories, Held}
 
-within-trans : (a b c : List ℕ) → Within a b → Within b c → Within a c
-within-trans a b c f g = record {
-  length-stays = g .length-stays ∙ f .length-stays;
-  beyond = λ k h. g .beyond k h ∙ f .beyond k h;
-}
-
-module _ (s : LimitSet) (m : ℕ) (reach : Reaches s m) (w₀ w w′ : List ℕ) (count : ℕ) (room : areaSize ≤ length w₀)
-    (first : Within w₀ w) (classed : Classed s m w) where
+module _ (s : LimitSet) (m : ℕ) (reach : Reaches s m) (w₀ w w′ : List ℕ) (count : ℕ) (classed : Classed s m w) where
   -- with the number of histories written as a power
-  held-power : 2 ^ m ≤ region → 1 ≤ 2 ^ m → NumberedFrom (2 ^ m) w w′ count → Held s (2 ^ m) w₀ w′ count
-  held-power fits positive numbered =
+  held-power : 2 ^ m ≤ high → 1 ≤ 2 ^ m → used (2 ^ m) ≤ length w₀ → Within (2 ^ m) w₀ w → NumberedFrom (2 ^ m) w w′ count → Held s (2 ^ m) w₀ w′ count
+  held-power fits positive room first numbered =
       let N = numbered .numbered s m refl classed in
-      let C = classed-kept s m w classed w′ (numbered .kept) fits in
+      let C = classed-kept s m w classed w′ (numbered .kept) in
       record {
         canonical = canonical-language (numberedMachine (2 ^ m) w′ count) (Walks (historyMachine s m)) (KeptBy s)
             (numbered-canonical s m w′ count N) (kept-walked s m (reach .enough));
@@ -46,10 +40,10 @@ module _ (s : LimitSet) (m : ℕ) (reach : Reaches s m) (w₀ w w′ : List ℕ)
           hits = λ j h. N .hits-numbered j h .0;
           misses = λ j h t. N .misses-numbered j h t .0;
         };
-        within = within-trans w₀ w w′ first (numbered .kept .within);
+        within = within-trans (2 ^ m) w₀ w w′ first (numbered .kept .within);
       }
 
-  pub held-of : (n : ℕ) → Histories m n → NumberedFrom n w w′ count → Held s n w₀ w′ count
-  held-of n h numbered =
-      subst (λ z. Held s z w₀ w′ count) (sym (h .power))
-      (held-power (subst (λ z. z ≤ region) (h .power) (h .fits)) (subst (λ z. 1 ≤ z) (h .power) (h .some-history)) (subst (λ z. NumberedFrom z w w′ count) (h .power) numbered))
+  pub held-of : (n : ℕ) → Histories m n → used n ≤ length w₀ → Within n w₀ w → NumberedFrom n w w′ count → Held s n w₀ w′ count
+  held-of n h room first numbered =
+      subst (λ z. z ≤ high → 1 ≤ z → used z ≤ length w₀ → Within z w₀ w → NumberedFrom z w w′ count → Held s z w₀ w′ count) (sym (h .power)) held-power
+      (h .fits) (h .some-history) room first numbered

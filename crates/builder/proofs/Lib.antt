@@ -1,4 +1,5 @@
 pub mod Stores
+pub mod Windows
 pub mod Holding
 pub mod Answers
 pub mod Numbers

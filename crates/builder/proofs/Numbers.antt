@@ -12,7 +12,7 @@ use Rattle.builder.specs.Build.{areaRow, earlyRows, buildRows, Cleared, 
 
 pub early-numbers : (w : ℕ) (set work : List ℕ) → Numbers (from-to 1 8) (earlyRows w set work)
 early-numbers w set work =
-    numbers-append (from-to 1 8) (setRows w set) (areaRow work ∷ [])
+    numbers-append (from-to 1 8) (setRows w set) (areaRow w work ∷ [])
     (numbers-among (from-to 1 7) (from-to 1 8) (λ n (l, h). (omega arith, omega arith)) (setRows w set) (set-numbers w set)) ((omega arith, omega arith), tt)
 
 module _ (early : List Row) (table : List ℕ) (size : ℕ) (numbers : Numbers (from-to 1 8) early) where
@@ -23,17 +23,17 @@ module _ (early : List Row) (table : List ℕ) (size : ℕ) (numbers : Numbers (
   pub room-numbers : Numbers (from-to 1 9) with-room
   room-numbers = numbers-append (from-to 1 9) early (roomRow table size ∷ []) (numbers-among (from-to 1 8) (from-to 1 9) (λ n (l, h). (omega arith, omega arith)) early numbers) ((omega arith, omega arith), tt)
 
-  pub work-by-number : (work work′ : List ℕ) (n v : ℕ) → first with-room ≡ refused n v → WorkAfter (first early) work work′ → (n ≤ 8 → work′ ≡ work) × (n ≡ 9 → Cleared work work′)
-  work-by-number work work′ n v e = go (first early) refl (sym (first-append early (roomRow table size ∷ [])) ∙ e)
+  pub work-by-number : (w : ℕ) (work work′ : List ℕ) (n v : ℕ) → first with-room ≡ refused n v → WorkAfter w (first early) work work′ → (n ≤ 8 → work′ ≡ work) × (n ≡ 9 → Cleared w work work′)
+  work-by-number w work work′ n v e = go (first early) refl (sym (first-append early (roomRow table size ∷ [])) ∙ e)
     where
-      go : (t : Tested) → first early ≡ t → and-then t (first (roomRow table size ∷ [])) ≡ refused n v → WorkAfter t work work′ → (n ≤ 8 → work′ ≡ work) × (n ≡ 9 → Cleared work work′)
-      go passed f q w =
+      go : (t : Tested) → first early ≡ t → and-then t (first (roomRow table size ∷ [])) ≡ refused n v → WorkAfter w t work work′ → (n ≤ 8 → work′ ≡ work) × (n ≡ 9 → Cleared w work work′)
+      go passed f q after =
           let nine = first-number (λ k. k ≡ 9) (roomRow table size ∷ []) n v (refl, tt) q in
-          (λ h. absurd (omega arith), λ h. w)
-      go (refused k u) f q w =
+          (λ h. absurd (omega arith), λ h. after)
+      go (refused k u) f q after =
           let z : k ≡ n = cc in
           let (low, high) = first-number (from-to 1 8) early k u numbers f in
-          (λ h. w, λ h. absurd (omega arith))
+          (λ h. after, λ h. absurd (omega arith))
 
 pub build-numbers : (w : ℕ) (set work table : List ℕ) (size : ℕ) → Numbers (from-to 1 9) (buildRows w set work table size)
 build-numbers w set work table size = room-numbers (earlyRows w set work) table size (early-numbers w set work)

@@ -19,7 +19,7 @@ use Rattle.table.proofs.Bytes.{bytes-of-one-table}
 use Rattle.classes.specs.Area.{areaSize}
 use Rattle.builder.specs.declared.BuildAnswer.{BuildAnswer}
 use Rattle.builder.specs.declared.BuildAnswer.the-variants.{Built, Refused}
-use Rattle.builder.specs.Build.{earlyRows, buildRows, says, lengthOf, Cleared, WorkAfter, tableWhen, BuiltWith, BuiltAs}
+use Rattle.builder.specs.Build.{earlyRows, buildRows, says, lengthOf, ClearedTo, WorkAfter, tableWhen, BuiltWith, BuiltAs}
 
 same-answer : (r t : BuildAnswer) → says r ≡ says t → lengthOf r ≡ lengthOf t → r ≡ t
 same-answer (Built n) (Built k) e l = ap Built l
@@ -27,14 +27,14 @@ same-answer (Built n) (Refused k v) e l = absurd (passed-not-refused e)
 same-answer (Refused k v) (Built n) e l = absurd (passed-not-refused (sym e))
 same-answer (Refused n v) (Refused k u) e l = cc
 
-cleared-once : (w a b : List ℕ) → Cleared w a → Cleared w b → a ≡ b
-cleared-once w a b f g =
+cleared-once : (size : ℕ) (w a b : List ℕ) → ClearedTo size w a → ClearedTo size w b → a ≡ b
+cleared-once size w a b f g =
     ext-getD 0 a b (f .length-stays ∙ sym (g .length-stays)) (λ k l.
-    dite (decLt k areaSize) (λ h. f .zero k h ∙ sym (g .zero k h)) (λ h. f .beyond k (omega arith) ∙ sym (g .beyond k (omega arith))))
+    dite (decLt k size) (λ h. f .zero k h ∙ sym (g .zero k h)) (λ h. f .beyond k (omega arith) ∙ sym (g .beyond k (omega arith))))
 
-work-once : (t : Tested) (w a b : List ℕ) → WorkAfter t w a → WorkAfter t w b → a ≡ b
-work-once passed w a b f g = cleared-once w a b f g
-work-once (refused n v) w a b f g = f ∙ sym g
+work-once : (widest : ℕ) (t : Tested) (w a b : List ℕ) → WorkAfter widest t w a → WorkAfter widest t w b → a ≡ b
+work-once widest passed w a b f g = cleared-once (areaSize widest) w a b f g
+work-once widest (refused n v) w a b f g = f ∙ sym g
 
 module _ (widest : ℕ) (set work table : List ℕ) where
   -- the answer and the table, by one answer of the rows and one machine's size and bytes
@@ -48,7 +48,7 @@ module _ (widest : ℕ) (set work table : List ℕ) where
     same-of : answered m ≡ answered n → lengthWhen (answered m) (size m) ≡ lengthWhen (answered n) (size n) → tableWhen (answered m) m table ≡ tableWhen (answered n) n table → (r ≡ t) × (a ≡ b) × (c ≡ d)
     same-of e l w = (
       same-answer r t (f .answer ∙ e ∙ sym (g .answer)) (f .returned ∙ l ∙ sym (g .returned)),
-      work-once (first (earlyRows widest set work)) work a b (f .work-after) (g .work-after),
+      work-once widest (first (earlyRows widest set work)) work a b (f .work-after) (g .work-after),
       f .table-after ∙ w ∙ sym (g .table-after),
     )
 

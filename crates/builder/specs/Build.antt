@@ -16,13 +16,13 @@ use Rattle.classes.specs.Area.{areaSize}
 use Rattle.builder.specs.declared.BuildAnswer.{BuildAnswer}
 use Rattle.builder.specs.declared.BuildAnswer.the-variants.{Built, Refused}
 
--- RULES, Refusals, 8: "the work area has less than 8,192 entries of 16 bits"
-abbrev pub areaRow : List ℕ → Row
-areaRow work = row 8 (ltb (length work) areaSize) 0
+-- RULES, Refusals, 8: "the work area has less than 131,072 entries of 16 bits; in the printing program, less than 8,192". Every row and promise takes the longest window as a variable: one builder serves both.
+abbrev pub areaRow : (widest : ℕ) → List ℕ → Row
+areaRow widest work = row 8 (ltb (length work) (areaSize widest)) 0
 
 -- what is tested before the work area is used
 abbrev pub earlyRows : (widest : ℕ) → (set work : List ℕ) → List Row
-earlyRows widest set work = setRows widest set ++ areaRow work ∷ []
+earlyRows widest set work = setRows widest set ++ areaRow widest work ∷ []
 
 -- and then 9 with 7+4n
 abbrev pub buildRows : (widest : ℕ) → (set work table : List ℕ) → (size : ℕ) → List Row
@@ -37,15 +37,18 @@ abbrev pub lengthOf : BuildAnswer → ℕ
 lengthOf (Built n) = n
 lengthOf (Refused number at) = 0
 
--- RULES, What a refusal leaves: "A builder that is past 8, refused by none of 1 to 8, gives the first 8,192 entries of the work area back as zeros"; "nothing is ever written to the entries of the work area after those 8,192".
-pub record Cleared (w w′ : List ℕ) : Type 0 where
+-- RULES, What a refusal leaves: "A builder that is past 8, refused by none of 1 to 8, gives the first 131,072 entries of the work area back as zeros"; "nothing is ever written to the entries of the work area after those 131,072". In the printing program they are 8,192.
+pub record ClearedTo (size : ℕ) (w w′ : List ℕ) : Type 0 where
   pub length-stays : length w′ ≡ length w
-  pub zero : (k : ℕ) → k < areaSize → getD w′ k 0 ≡ 0
-  pub beyond : (k : ℕ) → areaSize ≤ k → getD w′ k 0 ≡ getD w k 0
+  pub zero : (k : ℕ) → k < size → getD w′ k 0 ≡ 0
+  pub beyond : (k : ℕ) → size ≤ k → getD w′ k 0 ≡ getD w k 0
 
-abbrev pub WorkAfter : Tested → (w w′ : List ℕ) → Type 0
-WorkAfter passed w w′ = Cleared w w′
-WorkAfter (refused number at) w w′ = w′ ≡ w
+abbrev pub Cleared : (widest : ℕ) → (w w′ : List ℕ) → Type 0
+Cleared widest w w′ = ClearedTo (areaSize widest) w w′
+
+abbrev pub WorkAfter : (widest : ℕ) → Tested → (w w′ : List ℕ) → Type 0
+WorkAfter widest passed w w′ = Cleared widest w w′
+WorkAfter widest (refused number at) w w′ = w′ ≡ w
 
 -- the table and then the buffer as it was, or nothing written
 abbrev pub tableWhen : Tested → Machine → List ℕ → List ℕ
@@ -56,7 +59,7 @@ pub record BuiltWith (widest : ℕ) (set work work′ table table′ : List ℕ)
   pub canonical : first (earlyRows widest set work) ≡ passed → Canonical m (KeptBy (setOf set))
   pub answer : says r ≡ first (buildRows widest set work table (sizeOf (m .states)))
   pub returned : lengthOf r ≡ lengthWhen (first (buildRows widest set work table (sizeOf (m .states)))) (sizeOf (m .states))
-  pub work-after : WorkAfter (first (earlyRows widest set work)) work work′
+  pub work-after : WorkAfter widest (first (earlyRows widest set work)) work work′
   pub table-after : table′ ≡ tableWhen (first (buildRows widest set work table (sizeOf (m .states)))) m table
 
 abbrev pub BuiltAs : (widest : ℕ) → (set work work′ table table′ : List ℕ) → BuildAnswer → Type 0

@@ -4,20 +4,20 @@ use mathlib.Core.Bool.{true, false}
 use mathlib.Core.List.{List}
 use Prim.Native.Nat.{ℕ, _≤_, _<_}
 use lib.ListN.{length}
-use Rattle.classes.specs.Area.{region, areaSize, classAt, mayAt}
+use Rattle.classes.specs.Area.{used, high, classAt, mayAt}
 use Rattle.numbering.specs.Numbered.{classOf, numberAfter}
 
 -- the histories have classes among them, and the area has room
 pub record Entries (n : ℕ) (w : List ℕ) : Type 0 where
   pub some-history : 1 ≤ n
-  pub fits : n ≤ region
-  pub room : areaSize ≤ length w
+  pub fits : n ≤ high
+  pub room : used n ≤ length w
   pub no-greater : (h : ℕ) → h < n → classAt w h ≤ h
 
 -- what the writer asks of the work area: every move of its count states leads to a numbered class
 pub record Writable (n : ℕ) (w : List ℕ) (count : ℕ) : Type 0 where
   pub entries : Entries n w
   pub no-more : count ≤ n
-  pub histories : (j : ℕ) → j < count → classOf w j < n
-  pub hits : (j : ℕ) → j < count → 1 ≤ numberAfter w n (classOf w j) true
-  pub misses : (j : ℕ) → j < count → mayAt w (classOf w j) ≡ true → 1 ≤ numberAfter w n (classOf w j) false
+  pub histories : (j : ℕ) → j < count → classOf n w j < n
+  pub hits : (j : ℕ) → j < count → 1 ≤ numberAfter w n (classOf n w j) true
+  pub misses : (j : ℕ) → j < count → mayAt w (classOf n w j) ≡ true → 1 ≤ numberAfter w n (classOf n w j) false

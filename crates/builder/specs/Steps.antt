@@ -1,41 +1,40 @@
 -- What each step of the builder leaves.
 use mathlib.Core.Path.{_≡_}
 use mathlib.Core.List.{List, [], _∷_}
-use Prim.Native.Nat.{ℕ, suc, _-_, _^_, _≤_}
+use Prim.Native.Nat.{ℕ, suc, _^_, _≤_, _<_}
 use Rattle.layout.specs.Refusal.{first}
 use Rattle.layout.specs.Write.{roomRow, lengthWhen}
 use Rattle.machines.specs.Machine.{Machine}
 use Rattle.machines.specs.Canonical.{Canonical}
 use Rattle.meaning.specs.declared.LimitSet.{LimitSet}
-use Rattle.meaning.specs.Longest.{longest}
 use Rattle.meaning.specs.Sets.{SetAllowed, KeptBy}
 use Rattle.table.specs.Bytes.{sizeOf}
-use Rattle.classes.specs.Area.{region, Within}
+use Rattle.classes.specs.Area.{high, Within}
 use Rattle.numbering.specs.Numbered.{numberedMachine}
 use Rattle.builder.specs.declared.BuildAnswer.{BuildAnswer}
 use Rattle.builder.specs.Rows.{Writable}
 use Rattle.builder.specs.Build.{says, lengthOf, Cleared, tableWhen}
 
--- histories of m outcomes are long enough for every limit of the set
+-- histories of m outcomes are long enough for every limit of the set, and shorter than every window that it is allowed under
 pub record Reaches (s : LimitSet) (m : ℕ) : Type 0 where
-  pub short : m ≤ longest - 1
+  pub short : (widest : ℕ) → SetAllowed widest s → m < widest
   pub enough : SetAllowed (suc m) s
 
 pub record Histories (m n : ℕ) : Type 0 where
   pub power : n ≡ 2 ^ m
   pub some-history : 1 ≤ n
-  pub fits : n ≤ region
+  pub fits : n ≤ high
 
 -- the work area holds the canonical machine of the set
 pub record Held (s : LimitSet) (n : ℕ) (w w′ : List ℕ) (count : ℕ) : Type 0 where
   pub canonical : Canonical (numberedMachine n w′ count) (KeptBy s)
   pub writable : Writable n w′ count
-  pub within : Within w w′
+  pub within : Within n w w′
 
 -- the whole, for a set that has been read and a work area that is long enough
-pub record BuildsTable (s : LimitSet) (work work′ table table′ : List ℕ) (r : BuildAnswer) (m : Machine) : Type 0 where
+pub record BuildsTable (widest : ℕ) (s : LimitSet) (work work′ table table′ : List ℕ) (r : BuildAnswer) (m : Machine) : Type 0 where
   pub canonical : Canonical m (KeptBy s)
   pub answer : says r ≡ first (roomRow table (sizeOf (m .states)) ∷ [])
   pub returned : lengthOf r ≡ lengthWhen (first (roomRow table (sizeOf (m .states)) ∷ [])) (sizeOf (m .states))
-  pub cleared : Cleared work work′
+  pub cleared : Cleared widest work work′
   pub table-after : table′ ≡ tableWhen (first (roomRow table (sizeOf (m .states)) ∷ [])) m table

@@ -9,8 +9,6 @@ ghost use Rattle.numbering.specs.Numbered.{numberAfter, numberedMachine};
 ghost use Rattle.table.specs.Bytes.{pairBytes, rowBytes, headThen, bytesOf, sizeOf, noMiss};
 ghost use Rattle.builder.specs.Rows.{Entries, Writable};
 use classes::MAY_MISS;
-use numbering::NUMBERS;
-use numbering::ORDER;
 
 // A row: where a miss leads and where a hit does, two bytes each, the higher first.
 fn put_row(out: &mut [u8], at: usize, miss: u16, hit: u16)
@@ -41,7 +39,7 @@ fn number_after(work: &[u16], n: usize, history: usize, hit: bool) -> u16
 {
     let next = history::push_index(history, hit, n);
     let class = (work[next] % MAY_MISS) as usize;
-    work[NUMBERS + class]
+    work[2 * n + class]
 }
 
 // What the table holds for a miss after a history: where it leads, or that it isn't allowed.
@@ -71,7 +69,7 @@ fn put_rows(work: &[u16], n: usize, count: usize, out: &mut [u8])
 {
     let mut i = 0;
     while i < count {
-        let history = work[ORDER + i] as usize;
+        let history = work[3 * n + i] as usize;
         let miss = miss_entry(work, n, history);
         let hit = hit_entry(work, n, history);
         put_row(out, 7 + 4 * i, miss, hit);

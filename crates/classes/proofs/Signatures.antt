@@ -9,7 +9,7 @@ use lib.Bits.{and-le-r}
 use lib.ListN.{getD}
 use Rattle.history.specs.History.{shifted}
 use Rattle.history.proofs.Shifted.{shifted-lt}
-use Rattle.classes.specs.Area.{region, high, nextClass, mayAt}
+use Rattle.classes.specs.Area.{high, nextClass, mayAt}
 use Rattle.classes.specs.Signature.{sig, bucket}
 
 pub bucket-lt : (n s : ℕ) → 1 ≤ n → bucket n s < n
@@ -26,14 +26,14 @@ unfolding sig
 sig-open w n h l = rw (le-leb high (getD w h 0) l)
 
 -- the first region is the same
-abbrev pub Firsts : List ℕ → List ℕ → Type 0
-Firsts w w′ = (k : ℕ) → k < region → getD w′ k 0 ≡ getD w k 0
+abbrev pub Firsts : (n : ℕ) → List ℕ → List ℕ → Type 0
+Firsts n w w′ = (k : ℕ) → k < n → getD w′ k 0 ≡ getD w k 0
 
-pub sig-first : (w w′ : List ℕ) (n h : ℕ) → Firsts w w′ → 1 ≤ n → n ≤ region → h < n → sig w′ n h ≡ sig w n h
+pub sig-first : (w w′ : List ℕ) (n h : ℕ) → Firsts n w w′ → 1 ≤ n → h < n → sig w′ n h ≡ sig w n h
 unfolding sig
-sig-first w w′ n h f p q l =
-    let below : (o : Bool) → shifted (n - 1) h o < region = λ o. omega (arith, shifted-lt n h o p) in
-    rw (f h (omega arith), f (shifted (n - 1) h false) (below false), f (shifted (n - 1) h true) (below true))
+sig-first w w′ n h f p l =
+    let below : (o : Bool) → shifted (n - 1) h o < n = λ o. shifted-lt n h o p in
+    rw (f h l, f (shifted (n - 1) h false) (below false), f (shifted (n - 1) h true) (below true))
 
 -- the parts of equal signatures
 pub record PartsAlike (w : List ℕ) (n g h : ℕ) : Type 0 where

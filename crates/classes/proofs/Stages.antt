@@ -1,7 +1,7 @@
 -- A round makes of the classes of k jobs those of k + 1, one that changes nothing is the last, and from the start m are enough. Assumes nothing.
 use mathlib.Core.Path.{_≡_, refl, sym, ap, _∙_, subst}
 use mathlib.Core.List.{List, [], _∷_}
-use Prim.Native.Nat.{ℕ, suc, _%_, _^_, _≤_, _<_}
+use Prim.Native.Nat.{ℕ, suc, _%_, _^_, _<_}
 use native.Mathlib.Omega.{arith}
 use lib.Dec.{leb}
 use lib.ListN.{getD}
@@ -11,7 +11,7 @@ use Rattle.machines.proofs.Rounds.{round-ends}
 use Rattle.meaning.specs.declared.LimitSet.{LimitSet}
 use Rattle.history.specs.MayMiss.{mayMiss}
 use Rattle.history.specs.Machine.{historyMachine}
-use Rattle.classes.specs.Area.{region, high, classAt}
+use Rattle.classes.specs.Area.{high, classAt}
 use Rattle.classes.specs.Classed.{Classed}
 use Rattle.classes.specs.Signature.{sig}
 use Rattle.classes.specs.Chain.{newClass, Rounded}
@@ -49,12 +49,12 @@ stage-classed s m k w S all = record {
 pub stage-end : (s : LimitSet) (m : ℕ) (w : List ℕ) → Stage s m m w → Classed s m w
 stage-end s m w S = stage-classed s m m w S (same-in-m s m)
 
-module _ (s : LimitSet) (m k n : ℕ) (w w₁ : List ℕ) (e : n ≡ 2 ^ m) (fits : n ≤ region) (R : Rounded n w w₁) (S : Stage s m k w) where
+module _ (s : LimitSet) (m k n : ℕ) (w w₁ : List ℕ) (e : n ≡ 2 ^ m) (R : Rounded n w w₁) (S : Stage s m k w) where
   first : (h : ℕ) → h < 2 ^ m → getD w₁ h 0 ≡ getD w h 0
   first h l = R .kept .first h (omega arith)
 
-  alike : (h : ℕ) → h < 2 ^ m → sig w (2 ^ m) (newClass w₁ h) ≡ sig w (2 ^ m) h
-  alike h l = subst (λ z. sig w z (newClass w₁ h) ≡ sig w z h) e (R .alike h (omega arith))
+  alike : (h : ℕ) → h < 2 ^ m → sig w (2 ^ m) (newClass n w₁ h) ≡ sig w (2 ^ m) h
+  alike h l = subst (λ z. sig w z (newClass n w₁ h) ≡ sig w z h) e (R .alike h (omega arith))
 
   stage-kept : Stage s m k w₁
   stage-kept = record {
@@ -69,7 +69,7 @@ module _ (s : LimitSet) (m k n : ℕ) (w w₁ : List ℕ) (e : n ≡ 2 ^ m) (fit
     may = λ h l. N .may h (omega arith) ∙ stage-kept .may h l;
     no-greater = λ h l. omega (arith, N .classes h (omega arith), R .no-greater h (omega arith));
     same = λ h l. subst (λ z. SameTo (historyMachine s m) (suc k) z h) (sym (N .classes h (omega arith)))
-        (sig-same s m k w S (newClass w₁ h) h (omega (arith, R .no-greater h (omega arith))) l (alike h l));
+        (sig-same s m k w S (newClass n w₁ h) h (omega (arith, R .no-greater h (omega arith))) l (alike h l));
     least = λ g h i l t. omega (
       arith,
       N .classes h (omega arith),
@@ -78,10 +78,10 @@ module _ (s : LimitSet) (m k n : ℕ) (w w₁ : List ℕ) (e : n ≡ 2 ^ m) (fit
     );
   }
 
-  pub stage-settled : ((h : ℕ) → h < n → newClass w₁ h ≡ classAt w₁ h) → Classed s m w₁
+  pub stage-settled : ((h : ℕ) → h < n → newClass n w₁ h ≡ classAt w₁ h) → Classed s m w₁
   stage-settled c = stage-classed s m k w₁ stage-kept (round-ends (historyMachine s m) (history-well-made s m) k settled)
     where
-      at : (h : ℕ) → h < 2 ^ m → newClass w₁ h ≡ classAt w h
+      at : (h : ℕ) → h < 2 ^ m → newClass n w₁ h ≡ classAt w h
       at h l = c h (omega arith) ∙ ap (λ z. z % high) (first h l)
 
       settled : (a b : ℕ) → a < 2 ^ m → b < 2 ^ m → SameTo (historyMachine s m) k a b → SameTo (historyMachine s m) (suc k) a b

@@ -1,20 +1,19 @@
--- RULES, The table of a set: "the first 8,192 hold classes of histories and marks of merges while it works". Four regions, one entry a history in each.
+-- RULES, The table of a set: "the first 131,072 hold classes of histories and marks of merges while it works". Four regions, one entry a history in each, so a set takes as many as its own histories ask for.
 use mathlib.Core.Path.{_≡_}
 use mathlib.Core.Bool.{Bool}
 use mathlib.Core.List.{List}
 use Prim.Native.Nat.{ℕ, _-_, _*_, _%_, _^_, _≤_}
 use lib.Dec.{leb}
 use lib.ListN.{length, getD}
-use Rattle.meaning.specs.Longest.{longest}
 use Rattle.history.specs.History.{shifted}
 
--- entries of one region: the histories at the longest window
-abbrev pub region : ℕ
-region = 2 ^ (longest - 1)
+-- entries that n histories take
+abbrev pub used : ℕ → ℕ
+used n = 4 * n
 
--- RULES, Refusals, 8: "the work area has less than 8,192 entries of 16 bits"
-abbrev pub areaSize : ℕ
-areaSize = 4 * region
+-- RULES, Refusals, 8: "the work area has less than 131,072 entries of 16 bits; in the printing program, less than 8,192". By the longest window: what its histories take.
+abbrev pub areaSize : (widest : ℕ) → ℕ
+areaSize widest = used (2 ^ (widest - 1))
 
 -- an entry of the first region is a class, with its high bit set where a miss may follow
 abbrev pub high : ℕ
@@ -30,7 +29,7 @@ mayAt w h = leb high (getD w h 0)
 abbrev pub nextClass : List ℕ → (n h : ℕ) → Bool → ℕ
 nextClass w n h o = classAt w (shifted (n - 1) h o)
 
--- nothing past the four regions changes
-pub record Within (w w′ : List ℕ) : Type 0 where
+-- nothing past the four regions of n histories changes
+pub record Within (n : ℕ) (w w′ : List ℕ) : Type 0 where
   pub length-stays : length w′ ≡ length w
-  pub beyond : (k : ℕ) → areaSize ≤ k → getD w′ k 0 ≡ getD w k 0
+  pub beyond : (k : ℕ) → used n ≤ k → getD w′ k 0 ≡ getD w k 0

@@ -23,17 +23,17 @@ abbrev pub firstEntry : LimitSet → ℕ → ℕ
 firstEntry s h = cond (mayMiss s h) high 0
 
 pub record Started (s : LimitSet) (n : ℕ) (w w′ : List ℕ) : Type 0 where
-  pub within : Within w w′
+  pub within : Within n w w′
   pub entries : (h : ℕ) → h < n → getD w′ h 0 ≡ firstEntry s h
 
 -- the classes of a round become those of the last one
 pub record Renewed (n : ℕ) (w w′ : List ℕ) : Type 0 where
-  pub within : Within w w′
-  pub classes : (h : ℕ) → h < n → classAt w′ h ≡ newClass w h
+  pub within : Within n w w′
+  pub classes : (h : ℕ) → h < n → classAt w′ h ≡ newClass n w h
   pub may : (h : ℕ) → h < n → mayAt w′ h ≡ mayAt w h
 
 -- one more round, told by `changed` whether it parted any two histories: if not, no later one does
 pub record Refined (n : ℕ) (w w′ : List ℕ) (changed : Bool) : Type 0 where
-  pub within : Within w w′
+  pub within : Within n w w′
   pub further : changed ≡ true → (s : LimitSet) (m k : ℕ) → n ≡ 2 ^ m → Stage s m k w → Stage s m (suc k) w′
   pub settled : changed ≡ false → (s : LimitSet) (m k : ℕ) → n ≡ 2 ^ m → Stage s m k w → Classed s m w′

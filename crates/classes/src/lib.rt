@@ -6,26 +6,17 @@ ghost use Prim.Native.Nat.{ℕ, _+_, _-_, _*_, _^_, _≤_, _<_};
 ghost use lib.ListN.{length, getD};
 ghost use Rattle.meaning.specs.Longest.{longest};
 ghost use Rattle.meaning.specs.Sets.{SetAllowed};
-ghost use Rattle.classes.specs.Area.{region, areaSize, high, classAt, Within};
+ghost use Rattle.classes.specs.Area.{used, high, classAt, Within};
 ghost use Rattle.classes.specs.Classed.{Classed};
 ghost use Rattle.classes.specs.Signature.{sig, bucket};
 ghost use Rattle.classes.specs.Chain.{newClass, Room, Placed, Chained, Found, Kept, Rounded};
 ghost use Rattle.classes.specs.Stage.{firstEntry, Started, Renewed, Refined};
 use meaning::LimitSet;
 
-// Entries of one region of the work area: the number of histories at the longest window.
-pub const REGION: usize = 1 << (meaning::LONGEST_WINDOW - 1);
-
-// The first region has the classes of the last round, with this bit set where a miss may follow.
+// Of n histories the work area has four regions, n entries each. The first has the classes of the last round, with
+// this bit set where a miss may follow; the second, from n on, has the classes of this round, the third the heads of
+// the buckets, the fourth the links. A head or a link is 0, or one more than a history.
 pub const MAY_MISS: u16 = 1 << 15;
-
-// The second has the classes of this round, the third the heads of the buckets, the fourth the links. A head or a
-// link is 0, or one more than a history.
-const CLASSES: usize = REGION;
-
-const HEADS: usize = 2 * REGION;
-
-const LINKS: usize = 3 * REGION;
 
 fn entry(work: &[u16], k: usize) -> usize
     requires { ⌜ k < length (now work) ⌝ }
@@ -66,13 +57,13 @@ fn find(work: &[u16], n: usize, h: usize, s: usize, b: usize) -> usize
     requires { ⌜ Room n (now work) × Chained (now work) n h × (h ≤ n) × (b < n) × (b ≡ bucket n s) ⌝ }
     ensures { λ r. ⌜ Found (now (work .entry)) n h s r ⌝ }
 {
-    let mut next = entry(work, HEADS + b);
+    let mut next = entry(work, 2 * n + b);
     while next != 0 {
         let g = next - 1;
         if signature(work, n, g) == s {
             return g;
         }
-        next = entry(work, LINKS + g);
+        next = entry(work, 3 * n + g);
     }
     h
 }
@@ -80,26 +71,26 @@ fn find(work: &[u16], n: usize, h: usize, s: usize, b: usize) -> usize
 // Gives h its class. A class of its own goes to the front of its bucket.
 fn place(work: &mut [u16], n: usize, h: usize)
     requires { ⌜ Placed (now work) n h × (h < n) ⌝ }
-    ensures { λ _. ⌜ Placed (now (work .exit)) n (h + 1) × Kept (now (work .entry)) (now (work .exit)) ⌝ }
+    ensures { λ _. ⌜ Placed (now (work .exit)) n (h + 1) × Kept n (now (work .entry)) (now (work .exit)) ⌝ }
 {
     let s = signature(work, n, h);
     let b = bucket_of(n, s);
     let class = find(work, n, h, s, b);
-    work[CLASSES + h] = class as u16;
+    work[n + h] = class as u16;
     if class < h {
         return;
     }
-    let head = work[HEADS + b];
-    work[LINKS + h] = head;
-    work[HEADS + b] = (h + 1) as u16;
+    let head = work[2 * n + b];
+    work[3 * n + h] = head;
+    work[2 * n + b] = (h + 1) as u16;
 }
 
 fn clear_heads(work: &mut [u16], n: usize)
     requires { ⌜ Room n (now work) ⌝ }
-    ensures { λ _. ⌜ Placed (now (work .exit)) n 0 × Kept (now (work .entry)) (now (work .exit)) ⌝ }
+    ensures { λ _. ⌜ Placed (now (work .exit)) n 0 × Kept n (now (work .entry)) (now (work .exit)) ⌝ }
 {
     for b in 0..n {
-        work[HEADS + b] = 0;
+        work[2 * n + b] = 0;
     }
 }
 
@@ -117,10 +108,10 @@ fn round(work: &mut [u16], n: usize)
 // Whether the round changed a class.
 fn changed(work: &[u16], n: usize) -> bool
     requires { ⌜ Room n (now work) ⌝ }
-    ensures { λ r. ⌜ (r ≡ false → (h : ℕ) → h < n → newClass (now (work .entry)) h ≡ classAt (now (work .entry)) h) ⌝ }
+    ensures { λ r. ⌜ (r ≡ false → (h : ℕ) → h < n → newClass n (now (work .entry)) h ≡ classAt (now (work .entry)) h) ⌝ }
 {
     for h in 0..n {
-        if entry(work, CLASSES + h) != class_of(work, h) {
+        if entry(work, n + h) != class_of(work, h) {
             return true;
         }
     }
@@ -129,12 +120,12 @@ fn changed(work: &[u16], n: usize) -> bool
 
 // The classes of this round become those of the last.
 fn renew(work: &mut [u16], n: usize)
-    requires { ⌜ Room n (now work) × ((h : ℕ) → h < n → newClass (now work) h < high) ⌝ }
+    requires { ⌜ Room n (now work) × ((h : ℕ) → h < n → newClass n (now work) h < high) ⌝ }
     ensures { λ _. ⌜ Renewed n (now (work .entry)) (now (work .exit)) ⌝ }
 {
     for h in 0..n {
         let old = work[h];
-        let class = work[CLASSES + h];
+        let class = work[n + h];
         work[h] = old / MAY_MISS * MAY_MISS + class;
     }
 }
@@ -154,7 +145,7 @@ fn refine(work: &mut [u16], n: usize) -> bool
 
 // The entry of a history before the first round.
 fn first_entry(set: LimitSet, h: usize) -> u16
-    requires { ⌜ SetAllowed longest set × (h < region) ⌝ }
+    requires { ⌜ SetAllowed longest set × (h < high) ⌝ }
     ensures { λ r. ⌜ r ≡ firstEntry set h ⌝ }
 {
     if history::may_miss(set, h as u16) {
@@ -174,8 +165,8 @@ fn start(set: LimitSet, n: usize, work: &mut [u16])
 
 // The classes of the n histories of m outcomes.
 pub fn classes(set: LimitSet, m: usize, n: usize, work: &mut [u16])
-    requires { ⌜ (n ≡ 2 ^ m) × (m ≤ longest - 1) × SetAllowed longest set × (areaSize ≤ length (now work)) ⌝ }
-    ensures { λ _. ⌜ Classed set m (now (work .exit)) × Within (now (work .entry)) (now (work .exit)) ⌝ }
+    requires { ⌜ (n ≡ 2 ^ m) × (m ≤ longest - 1) × SetAllowed longest set × (used n ≤ length (now work)) ⌝ }
+    ensures { λ _. ⌜ Classed set m (now (work .exit)) × Within n (now (work .entry)) (now (work .exit)) ⌝ }
 {
     start(set, n, work);
     for i in 0..m {

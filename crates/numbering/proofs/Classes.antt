@@ -9,7 +9,7 @@ use Rattle.machines.specs.Same.{Same}
 use Rattle.machines.proofs.Rounds.{same-trans}
 use Rattle.meaning.specs.declared.LimitSet.{LimitSet}
 use Rattle.history.specs.Machine.{historyMachine}
-use Rattle.classes.specs.Area.{region, areaSize, classAt}
+use Rattle.classes.specs.Area.{used, high, classAt}
 use Rattle.classes.specs.Classed.{Classed}
 use Rattle.numbering.specs.Work.{OfSomeSet, Ready, Kept}
 use Rattle.numbering.proofs.Keeping.{class-stays, may-stays}
@@ -27,18 +27,18 @@ module _ (s : LimitSet) (m : ℕ) (w : List ℕ) (C : Classed s m w) where
         C .least d h dl l (same-trans (historyMachine s m) d c h (C .same c cl) (C .same h l)),
       )
 
-  pub classed-kept : (w′ : List ℕ) → Kept w w′ → 2 ^ m ≤ region → Classed s m w′
-  classed-kept w′ K fits = record {
-    may = λ h l. may-stays (2 ^ m) w w′ K fits h l ∙ C .may h l;
+  pub classed-kept : (w′ : List ℕ) → Kept (2 ^ m) w w′ → Classed s m w′
+  classed-kept w′ K = record {
+    may = λ h l. may-stays (2 ^ m) w w′ K h l ∙ C .may h l;
     no-greater = λ h l. omega (arith, stays h l, C .no-greater h l);
     same = λ h l. subst (λ c. Same (historyMachine s m) c h) (sym (stays h l)) (C .same h l);
     least = λ g h k l e. omega (arith, stays h l, C .least g h k l e);
   }
     where
       stays : (h : ℕ) → h < 2 ^ m → classAt w′ h ≡ classAt w h
-      stays = class-stays (2 ^ m) w w′ K fits
+      stays = class-stays (2 ^ m) w w′ K
 
-pub classed-ready : (n : ℕ) (w : List ℕ) → n ≤ region → areaSize ≤ length w → OfSomeSet n w → Ready n w
+pub classed-ready : (n : ℕ) (w : List ℕ) → n ≤ high → used n ≤ length w → OfSomeSet n w → Ready n w
 classed-ready n w fits room (s, m, e, C) = record {
   some-history = omega (arith, pow-pos m);
   fits = fits;

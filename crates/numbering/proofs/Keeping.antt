@@ -7,14 +7,14 @@ use native.Mathlib.Omega.{arith}
 use lib.Dec.{leb}
 use lib.ListN.{set, length-set}
 use lib.Seq.{getD-set-other}
-use Rattle.classes.specs.Area.{region, areaSize, high, classAt, mayAt}
+use Rattle.classes.specs.Area.{used, high, classAt, mayAt}
 use Rattle.numbering.specs.Work.{Ready, Kept}
 use Rattle.numbering.specs.Rows.{possible}
 
-pub kept-none : (w : List ℕ) → Kept w w
-kept-none w = record { within = record { length-stays = refl; beyond = λ k l. refl }; classes-stay = λ k l. refl }
+pub kept-none : (n : ℕ) (w : List ℕ) → Kept n w w
+kept-none n w = record { within = record { length-stays = refl; beyond = λ k l. refl }; classes-stay = λ k l. refl }
 
-pub kept-trans : {a b c : List ℕ} → Kept a b → Kept b c → Kept a c
+pub kept-trans : {n : ℕ} {a b c : List ℕ} → Kept n a b → Kept n b c → Kept n a c
 kept-trans K L = record {
   within = record {
     length-stays = L .within .length-stays ∙ K .within .length-stays;
@@ -23,24 +23,24 @@ kept-trans K L = record {
   classes-stay = λ k l. L .classes-stay k l ∙ K .classes-stay k l;
 }
 
-pub kept-store : (w : List ℕ) (i v : ℕ) → region ≤ i → i < areaSize → Kept w (set w i v)
-kept-store w i v a b = record {
+pub kept-store : (n : ℕ) (w : List ℕ) (i v : ℕ) → n ≤ i → i < used n → Kept n w (set w i v)
+kept-store n w i v a b = record {
   within = record { length-stays = length-set w i v; beyond = λ k l. getD-set-other w i k v 0 (omega arith) };
   classes-stay = λ k l. getD-set-other w i k v 0 (omega arith);
 }
 
-module _ (n : ℕ) (w w′ : List ℕ) (K : Kept w w′) (fits : n ≤ region) (h : ℕ) (l : h < n) where
+module _ (n : ℕ) (w w′ : List ℕ) (K : Kept n w w′) (h : ℕ) (l : h < n) where
   pub class-stays : classAt w′ h ≡ classAt w h
-  class-stays = ap (λ z. z % high) (K .classes-stay h (omega arith))
+  class-stays = ap (λ z. z % high) (K .classes-stay h l)
 
   pub may-stays : mayAt w′ h ≡ mayAt w h
-  may-stays = ap (leb high) (K .classes-stay h (omega arith))
+  may-stays = ap (leb high) (K .classes-stay h l)
 
   pub possible-stays : (o : Bool) → possible w′ h o ≡ possible w h o
   possible-stays true = refl
   possible-stays false = may-stays
 
-pub ready-kept : (n : ℕ) (w w′ : List ℕ) → Kept w w′ → Ready n w → Ready n w′
+pub ready-kept : (n : ℕ) (w w′ : List ℕ) → Kept n w w′ → Ready n w → Ready n w′
 ready-kept n w w′ K R = record {
   some-history = R .some-history;
   fits = R .fits;
@@ -51,4 +51,4 @@ ready-kept n w w′ K R = record {
 }
   where
     stays : (h : ℕ) → h < n → classAt w′ h ≡ classAt w h
-    stays = class-stays n w w′ K (R .fits)
+    stays = class-stays n w w′ K

@@ -14,7 +14,7 @@ use Rattle.numbering.specs.Work.{OfSomeSet, NumberedFrom}
 pub numbered-canonical : (s : LimitSet) (m : ℕ) (w : List ℕ) (count : ℕ) → Numbered s m w count
     → Canonical (numberedMachine (2 ^ m) w count) (Walks (historyMachine s m))
 numbered-canonical s m w count N =
-    canonical-by-sight (numberedMachine (2 ^ m) w count) (historyMachine s m) (classOf w) (N .well-made) (N .stands) (N .at-sight)
+    canonical-by-sight (numberedMachine (2 ^ m) w count) (historyMachine s m) (classOf (2 ^ m) w) (N .well-made) (N .stands) (N .at-sight)
 
 pub number-one-result : (n : ℕ) (w a b : List ℕ) (r t : ℕ) → OfSomeSet n w → NumberedFrom n w a r → NumberedFrom n w b t → r ≡ t
 number-one-result n w a b r t (s, m, e, C) f g =

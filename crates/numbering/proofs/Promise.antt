@@ -29,46 +29,46 @@ none-where-false false x e = refl
 
 module _ (m : ℕ) (w : List ℕ) (count : ℕ) (N : Numbering (2 ^ m) w count (place count false)) (s : LimitSet) (C : Classed s m w) where
   history-move : (j : ℕ) (o : Bool) → j < count
-      → historyNext s m (classOf w j) o ≡ cond (possible w (classOf w j) o) (some (pushed m (classOf w j) o)) none
+      → historyNext s m (classOf (2 ^ m) w j) o ≡ cond (possible w (classOf (2 ^ m) w j) o) (some (pushed m (classOf (2 ^ m) w j) o)) none
   history-move j true l = refl
   history-move j false l =
-      ap (λ b. cond b (some (pushed m (classOf w j) false)) none) (sym (C .may (classOf w j) (N .ordered .histories j l)))
+      ap (λ b. cond b (some (pushed m (classOf (2 ^ m) w j) false)) none) (sym (C .may (classOf (2 ^ m) w j) (N .ordered .histories j l)))
 
-  blocked : (j : ℕ) (o : Bool) → j < count → moveOf w (2 ^ m) (classOf w j) o ≡ none → historyNext s m (classOf w j) o ≡ none
+  blocked : (j : ℕ) (o : Bool) → j < count → moveOf w (2 ^ m) (classOf (2 ^ m) w j) o ≡ none → historyNext s m (classOf (2 ^ m) w j) o ≡ none
   blocked j o l e =
-      let d = none-where-false (possible w (classOf w j) o) (numberAfter w (2 ^ m) (classOf w j) o - 1)
-      (sym (move-where-possible w (2 ^ m) (classOf w j) o) ∙ e) in
-      history-move j o l ∙ ap (λ b. cond b (some (pushed m (classOf w j) o)) none) d
+      let d = none-where-false (possible w (classOf (2 ^ m) w j) o) (numberAfter w (2 ^ m) (classOf (2 ^ m) w j) o - 1)
+      (sym (move-where-possible w (2 ^ m) (classOf (2 ^ m) w j) o) ∙ e) in
+      history-move j o l ∙ ap (λ b. cond b (some (pushed m (classOf (2 ^ m) w j) o)) none) d
 
   -- the class that an outcome leads to is that of the history after it
-  class-led : (j t : ℕ) (o : Bool) → Leads (2 ^ m) w j t o → classOf w t ≡ classAt w (pushed m (classOf w j) o)
+  class-led : (j t : ℕ) (o : Bool) → Leads (2 ^ m) w j t o → classOf (2 ^ m) w t ≡ classAt w (pushed m (classOf (2 ^ m) w j) o)
   class-led j t o L =
-      let c = nextClass w (2 ^ m) (classOf w j) o in
-      let e : numberAt w c - 1 ≡ t = omega (arith, L .there) in
-      ap (classOf w) (sym e) ∙ N .ordered .class-of-number c (class-after-below (N .ready) j o) (omega (arith, L .there))
-      ∙ next-class-pushed w m (classOf w j) o
+      let c = nextClass w (2 ^ m) (classOf (2 ^ m) w j) o in
+      let e : numberAt (2 ^ m) w c - 1 ≡ t = omega (arith, L .there) in
+      ap (classOf (2 ^ m) w) (sym e) ∙ N .ordered .class-of-number c (class-after-below (N .ready) j o) (omega (arith, L .there))
+      ∙ next-class-pushed w m (classOf (2 ^ m) w j) o
 
-  moves : (j t : ℕ) (o : Bool) → j < count → moveOf w (2 ^ m) (classOf w j) o ≡ some t
-      → (u : ℕ) × (historyNext s m (classOf w j) o ≡ some u) × Same (historyMachine s m) (classOf w t) u
+  moves : (j t : ℕ) (o : Bool) → j < count → moveOf w (2 ^ m) (classOf (2 ^ m) w j) o ≡ some t
+      → (u : ℕ) × (historyNext s m (classOf (2 ^ m) w j) o ≡ some u) × Same (historyMachine s m) (classOf (2 ^ m) w t) u
   moves j t o l e =
       let L = move-leads (2 ^ m) w count N j t o l e in
-      let u = pushed m (classOf w j) o in (
+      let u = pushed m (classOf (2 ^ m) w j) o in (
         u,
         history-move j o l ∙ ap (λ b. cond b (some u) none) (L .may),
-        subst (λ c. Same (historyMachine s m) c u) (sym (class-led j t o L)) (C .same u (pushed-lt m (classOf w j) o)),
+        subst (λ c. Same (historyMachine s m) c u) (sym (class-led j t o L)) (C .same u (pushed-lt m (classOf (2 ^ m) w j) o)),
       )
 
   -- of two classes that are the same each is no greater than the other
-  no-greater : (j t : ℕ) → j < count → t < count → Same (historyMachine s m) (classOf w j) (classOf w t) → classOf w t ≤ classOf w j
+  no-greater : (j t : ℕ) → j < count → t < count → Same (historyMachine s m) (classOf (2 ^ m) w j) (classOf (2 ^ m) w t) → classOf (2 ^ m) w t ≤ classOf (2 ^ m) w j
   no-greater j t k l e =
-      omega (arith, N .ordered .own-class t l, C .least (classOf w j) (classOf w t) (N .ordered .histories j k) (N .ordered .histories t l) e)
+      omega (arith, N .ordered .own-class t l, C .least (classOf (2 ^ m) w j) (classOf (2 ^ m) w t) (N .ordered .histories j k) (N .ordered .histories t l) e)
 
-  apart : (j t : ℕ) → j < count → t < count → Same (historyMachine s m) (classOf w j) (classOf w t) → j ≡ t
+  apart : (j t : ℕ) → j < count → t < count → Same (historyMachine s m) (classOf (2 ^ m) w j) (classOf (2 ^ m) w t) → j ≡ t
   apart j t k l e =
       let a = no-greater j t k l e in
-      let b = no-greater t j l k (same-sym (historyMachine s m) (classOf w j) (classOf w t) e) in
-      let d : classOf w j ≡ classOf w t = omega arith in
-      omega (arith, ap (numberAt w) d, N .ordered .number-of-class j k, N .ordered .number-of-class t l)
+      let b = no-greater t j l k (same-sym (historyMachine s m) (classOf (2 ^ m) w j) (classOf (2 ^ m) w t) e) in
+      let d : classOf (2 ^ m) w j ≡ classOf (2 ^ m) w t = omega arith in
+      omega (arith, ap (numberAt (2 ^ m) w) d, N .ordered .number-of-class j k, N .ordered .number-of-class t l)
 
   pub numbered : Numbered s m w count
   numbered = record {
@@ -87,12 +87,12 @@ module _ (m : ℕ) (w : List ℕ) (count : ℕ) (N : Numbering (2 ^ m) w count (
     misses-numbered = λ j l a. (number-at-least-1 (2 ^ m) w count N j false l a, number-at-most-count (2 ^ m) w count N j false);
   }
 
-pub numbered-from : (n : ℕ) (w w′ : List ℕ) (count p : ℕ) → Kept w w′ → Numbering n w′ count p → p ≡ place count false
+pub numbered-from : (n : ℕ) (w w′ : List ℕ) (count p : ℕ) → Kept n w w′ → Numbering n w′ count p → p ≡ place count false
     → NumberedFrom n w w′ count
 numbered-from n w w′ count p K N e = record {
   numbered = λ s m f C.
       let N₁ : Numbering n w′ count (place count false) = subst (Numbering n w′ count) e N in
       let N₂ : Numbering (2 ^ m) w′ count (place count false) = subst (λ k. Numbering k w′ count (place count false)) f N₁ in
-      numbered m w′ count N₂ s (classed-kept s m w C w′ K (N₂ .ready .fits));
+      numbered m w′ count N₂ s (classed-kept s m w C w′ (subst (λ k. Kept k w w′) f K));
   kept = K;
 }

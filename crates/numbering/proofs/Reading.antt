@@ -25,15 +25,15 @@ place-one s r false true e = absurd (omega arith)
 
 pub class-after-below : {n : ℕ} {w : List ℕ} → Ready n w → (s : ℕ) (o : Bool) → classAfter n w s o < n
 class-after-below {n} {w} R s o =
-    let l = shifted-lt n (classOf w s) o (R .some-history) in
-    omega (arith, R .no-greater (shifted (n - 1) (classOf w s) o) l)
+    let l = shifted-lt n (classOf n w s) o (R .some-history) in
+    omega (arith, R .no-greater (shifted (n - 1) (classOf n w s) o) l)
 
 row-no-later : (s r : ℕ) (o x : Bool) → place s o < place r x → s ≤ r
 row-no-later s r o x l = omega (arith, bit-le x)
 
 -- an outcome that isn't possible is passed over
 pub read-none : (n : ℕ) (w : List ℕ) (count i : ℕ) (o : Bool) → Numbering n w count (place i o)
-    → possible w (classOf w i) o ≡ false → ReadTo n w w count count (place i o + 1)
+    → possible w (classOf n w i) o ≡ false → ReadTo n w w count count (place i o + 1)
 read-none n w count i o N d = record {
   numbering = record {
     ready = N .ready;
@@ -56,26 +56,26 @@ read-none n w count i o N d = record {
           },
         );
   };
-  kept = kept-none w;
+  kept = kept-none n w;
   grows = omega arith;
 }
 
 module _ (n : ℕ) (w w′ : List ℕ) (count r i : ℕ) (o : Bool) (N : Numbering n w count (place i o)) (il : i < count)
-    (may : possible w (classOf w i) o ≡ true) (G : Visited n w w′ (classAfter n w i o) count r) where
+    (may : possible w (classOf n w i) o ≡ true) (G : Visited n w w′ (classAfter n w i o) count r) where
   after-stays : (s : ℕ) (x : Bool) → s < count → classAfter n w′ s x ≡ classAfter n w s x
   after-stays s x l =
       ap (λ c. nextClass w′ n c x) (G .order-stays s l)
-      ∙ class-stays n w w′ (G .kept) (N .ready .fits) (shifted (n - 1) (classOf w s) x)
-      (shifted-lt n (classOf w s) x (N .ready .some-history))
+      ∙ class-stays n w w′ (G .kept) (shifted (n - 1) (classOf n w s) x)
+      (shifted-lt n (classOf n w s) x (N .ready .some-history))
 
-  outcome-stays : (s : ℕ) (x : Bool) → s < count → possible w′ (classOf w′ s) x ≡ possible w (classOf w s) x
+  outcome-stays : (s : ℕ) (x : Bool) → s < count → possible w′ (classOf n w′ s) x ≡ possible w (classOf n w s) x
   outcome-stays s x l =
       ap (λ c. possible w′ c x) (G .order-stays s l)
-      ∙ possible-stays n w w′ (G .kept) (N .ready .fits) (classOf w s) (N .ordered .histories s l) x
+      ∙ possible-stays n w w′ (G .kept) (classOf n w s) (N .ordered .histories s l) x
 
-  number-stays : (s : ℕ) (x : Bool) → s < count → 1 ≤ numberAt w (classAfter n w s x)
-      → numberAt w′ (classAfter n w′ s x) ≡ numberAt w (classAfter n w s x)
-  number-stays s x l p = ap (numberAt w′) (after-stays s x l) ∙ G .numbers-stay (classAfter n w s x) (class-after-below (N .ready) s x) p
+  number-stays : (s : ℕ) (x : Bool) → s < count → 1 ≤ numberAt n w (classAfter n w s x)
+      → numberAt n w′ (classAfter n w′ s x) ≡ numberAt n w (classAfter n w s x)
+  number-stays s x l p = ap (numberAt n w′) (after-stays s x l) ∙ G .numbers-stay (classAfter n w s x) (class-after-below (N .ready) s x) p
 
   leads-on : (s t : ℕ) (x : Bool) → s < count → Leads n w s t x → Leads n w′ s t x
   leads-on s t x l L = record {
@@ -112,7 +112,7 @@ module _ (n : ℕ) (w w′ : List ℕ) (count r i : ℕ) (o : Bool) (N : Numberi
           row-before = omega arith;
           here = record {
             may = outcome-stays i o il ∙ may;
-            there = ap (numberAt w′) (after-stays i o il) ∙ G .new-number t (omega arith) l;
+            there = ap (numberAt n w′) (after-stays i o il) ∙ G .new-number t (omega arith) l;
           };
           lower-before = λ q u y c L.
               let M = leads-back q u y (omega (arith, row-no-later q i y o c)) c L in
@@ -120,8 +120,8 @@ module _ (n : ℕ) (w w′ : List ℕ) (count r i : ℕ) (o : Bool) (N : Numberi
         },
       ))
 
-  closed-more : (s : ℕ) (x : Bool) → s < r → place s x < place i o + 1 → possible w′ (classOf w′ s) x ≡ true
-      → 1 ≤ numberAt w′ (classAfter n w′ s x)
+  closed-more : (s : ℕ) (x : Bool) → s < r → place s x < place i o + 1 → possible w′ (classOf n w′ s) x ≡ true
+      → 1 ≤ numberAt n w′ (classAfter n w′ s x)
   closed-more s x l b m = dite (decLt (place s x) (place i o))
       (λ a.
       let k : s < count = omega (arith, row-no-later s i x o a) in
@@ -129,7 +129,7 @@ module _ (n : ℕ) (w w′ : List ℕ) (count r i : ℕ) (o : Bool) (N : Numberi
       omega (arith, number-stays s x k c))
       (λ a.
       let (f, g) = place-one s i x o (omega arith) in
-      let q : numberAt w′ (classAfter n w′ s x) ≡ numberAt w′ (classAfter n w i o) = cc (after-stays i o il) in
+      let q : numberAt n w′ (classAfter n w′ s x) ≡ numberAt n w′ (classAfter n w i o) = cc (after-stays i o il) in
       omega (arith, q, G .numbered))
 
   pub read-more : ReadTo n w w′ count r (place i o + 1)
@@ -139,7 +139,7 @@ module _ (n : ℕ) (w w′ : List ℕ) (count r i : ℕ) (o : Bool) (N : Numberi
       ordered = G .ordered;
       some-state = omega (arith, N .some-state, G .grows);
       start = G .order-stays 0 (N .some-state) ∙ N .start
-          ∙ sym (class-stays n w w′ (G .kept) (N .ready .fits) (n - 1) (omega (arith, N .ready .some-history)));
+          ∙ sym (class-stays n w w′ (G .kept) (n - 1) (omega (arith, N .ready .some-history)));
       closed = closed-more;
       found = found-more;
     };

@@ -25,24 +25,24 @@ move-where-possible w n h true = refl
 move-where-possible w n h false = refl
 
 module _ (n : ℕ) (w : List ℕ) (count : ℕ) (N : Numbering n w count (place count false)) where
-  pub number-at-least-1 : (j : ℕ) (o : Bool) → j < count → possible w (classOf w j) o ≡ true
-      → 1 ≤ numberAfter w n (classOf w j) o
+  pub number-at-least-1 : (j : ℕ) (o : Bool) → j < count → possible w (classOf n w j) o ≡ true
+      → 1 ≤ numberAfter w n (classOf n w j) o
   number-at-least-1 j o l = N .closed j o l (omega (arith, bit-le o))
 
-  pub number-at-most-count : (j : ℕ) (o : Bool) → numberAfter w n (classOf w j) o ≤ count
-  number-at-most-count j o = N .ordered .no-more (nextClass w n (classOf w j) o) (class-after-below (N .ready) j o)
+  pub number-at-most-count : (j : ℕ) (o : Bool) → numberAfter w n (classOf n w j) o ≤ count
+  number-at-most-count j o = N .ordered .no-more (nextClass w n (classOf n w j) o) (class-after-below (N .ready) j o)
 
-  pub move-leads : (j t : ℕ) (o : Bool) → j < count → moveOf w n (classOf w j) o ≡ some t → Leads n w j t o
+  pub move-leads : (j t : ℕ) (o : Bool) → j < count → moveOf w n (classOf n w j) o ≡ some t → Leads n w j t o
   move-leads j t o l e =
-      let (a, b) = some-where-true (possible w (classOf w j) o) (numberAfter w n (classOf w j) o - 1) t
-      (sym (move-where-possible w n (classOf w j) o) ∙ e) in
+      let (a, b) = some-where-true (possible w (classOf n w j) o) (numberAfter w n (classOf n w j) o - 1) t
+      (sym (move-where-possible w n (classOf n w j) o) ∙ e) in
       record { may = a; there = omega (arith, number-at-least-1 j o l a) }
 
-  leads-move : (j t : ℕ) (o : Bool) → Leads n w j t o → moveOf w n (classOf w j) o ≡ some t
+  leads-move : (j t : ℕ) (o : Bool) → Leads n w j t o → moveOf w n (classOf n w j) o ≡ some t
   leads-move j t o L =
-      let e : numberAfter w n (classOf w j) o - 1 ≡ t = omega (arith, L .there) in
-      move-where-possible w n (classOf w j) o
-      ∙ ap (λ b. cond b (some (numberAfter w n (classOf w j) o - 1)) none) (L .may)
+      let e : numberAfter w n (classOf n w j) o - 1 ≡ t = omega (arith, L .there) in
+      move-where-possible w n (classOf n w j) o
+      ∙ ap (λ b. cond b (some (numberAfter w n (classOf n w j) o - 1)) none) (L .may)
       ∙ ap {B = Option ℕ} some e
 
   pub well-made : WellMade (numberedMachine n w count)
@@ -53,7 +53,7 @@ module _ (n : ℕ) (w : List ℕ) (count : ℕ) (N : Numbering n w count (place 
 
   -- no entry leads to t before the place where it was found
   none-before : (t s r : ℕ) (o x : Bool) → Found n w (place count false) t s o → r < count
-      → moveOf w n (classOf w r) x ≡ some t → place s o ≤ place r x
+      → moveOf w n (classOf n w r) x ≡ some t → place s o ≤ place r x
   none-before t s r o x F l e = dite (decLt (place r x) (place s o))
       (λ b. absurd (omega (arith, F .lower-before r t x b (move-leads r t x l e))))
       (λ b. omega arith)
@@ -74,7 +74,7 @@ module _ (n : ℕ) (w : List ℕ) (count : ℕ) (N : Numbering n w count (place 
       dite (decLt (place q y) (place r x)) (λ h. omega arith) (λ h.
       dite (decLt (place r x) (place q y)) (λ k. absurd (omega (arith, F .lower-before r u x k L))) (λ k.
       let (d, e) = place-one r q x y (omega arith) in
-      let z : numberAfter w n (classOf w r) x ≡ numberAfter w n (classOf w q) y = cc in
+      let z : numberAfter w n (classOf n w r) x ≡ numberAfter w n (classOf n w q) y = cc in
       absurd (omega (arith, L .there, F .here .there))))
 
   pub at-sight : NumberedAtSight (numberedMachine n w count)

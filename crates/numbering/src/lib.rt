@@ -1,27 +1,22 @@
 // The states of the table, numbered at first sight: breadth first over the classes of histories, a miss before a hit.
-// The first region of the work area has the classes of n histories; the third and the fourth are written.
+// The first region of the work area has the classes of n histories. The third gets the number of each class, 0 for none
+// or one more than the number; the fourth the classes in the order of their numbers.
 ghost use mathlib.Core.Path.{_≡_};
 ghost use mathlib.Core.Bool.{false};
 ghost use Prim.Native.Nat.{_+_, _≤_, _<_};
 ghost use lib.ListN.{length};
 ghost use Rattle.machines.specs.Numbering.{place};
-ghost use Rattle.classes.specs.Area.{region, areaSize, classAt};
+ghost use Rattle.classes.specs.Area.{used, high, classAt};
 ghost use Rattle.numbering.specs.Work.{OfSomeSet, Ready, NumberedFrom};
 ghost use Rattle.numbering.specs.Rows.{Ordered, Visited, possible, Numbering, ReadTo, Cleared};
 use classes::MAY_MISS;
-
-// Where the numbers of the classes begin: 0 for none, or one more than the number.
-pub const NUMBERS: usize = 2 * classes::REGION;
-
-// Where the classes in the order of their numbers begin.
-pub const ORDER: usize = 3 * classes::REGION;
 
 fn clear(n: usize, work: &mut [u16])
     requires { ⌜ Ready n (now work) ⌝ }
     ensures { λ _. ⌜ Cleared n (now (work .entry)) (now (work .exit)) ⌝ }
 {
     for c in 0..n {
-        work[NUMBERS + c] = 0;
+        work[2 * n + c] = 0;
     }
 }
 
@@ -31,9 +26,9 @@ fn visit(n: usize, work: &mut [u16], history: usize, count: usize) -> usize
     ensures { λ r. ⌜ Visited n (now (work .entry)) (now (work .exit)) (classAt (now (work .entry)) history) count r ⌝ }
 {
     let class = (work[history] % MAY_MISS) as usize;
-    if work[NUMBERS + class] == 0 {
-        work[NUMBERS + class] = (count + 1) as u16;
-        work[ORDER + count] = class as u16;
+    if work[2 * n + class] == 0 {
+        work[2 * n + class] = (count + 1) as u16;
+        work[3 * n + count] = class as u16;
         return count + 1;
     }
     count
@@ -55,7 +50,7 @@ fn follow(n: usize, work: &mut [u16], i: usize, hit: bool, count: usize) -> usiz
     requires { ⌜ (i < count) × Numbering n (now work) count (place i hit) ⌝ }
     ensures { λ r. ⌜ ReadTo n (now (work .entry)) (now (work .exit)) count r (place i hit + 1) ⌝ }
 {
-    let class = work[ORDER + i] as usize;
+    let class = work[3 * n + i] as usize;
     if may_follow(work, class, hit) {
         return visit(n, work, history::push_index(class, hit, n), count);
     }
@@ -73,7 +68,7 @@ fn visit_start(n: usize, work: &mut [u16]) -> usize
 
 // Numbers every class that is reached, and returns how many they are.
 pub fn number(n: usize, work: &mut [u16]) -> usize
-    requires { ⌜ (n ≤ region) × (areaSize ≤ length (now work)) × OfSomeSet n (now work) ⌝ }
+    requires { ⌜ (n ≤ high) × (used n ≤ length (now work)) × OfSomeSet n (now work) ⌝ }
     ensures { λ r. ⌜ NumberedFrom n (now (work .entry)) (now (work .exit)) r ⌝ }
 {
     let mut count = visit_start(n, work);

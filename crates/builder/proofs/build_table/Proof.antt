@@ -1,18 +1,37 @@
 -- `builder::build_table`: each way out by its law. Assumes nothing.
+use native.Mathlib.Omega.{arith}
 use borrow.Author.Needs.{needs}
+use Rattle.meaning.specs.Longest.{longest}
 use Rattle.numbering.specs.Numbered.{numberedMachine}
+use Rattle.builder.proofs.Windows.{set-wider, area-suffices}
 use Rattle.builder.proofs.Answers.{clear-within, short-table, whole-table}
 use Rattle.builder.proofs.build_table.Statement.{statement}
 use Rattle.builder.proofs.build_table.Tie as tie
 
+area-size-requires : tie.Need-area-size-requires
+area-size-requires c κs = search needs
+
 history-length-requires : tie.Need-history-length-requires
-history-length-requires c κs = search needs
+history-length-requires c κs =
+    let s = c .before .before .before in
+    set-wider (s .args .widest) longest (s .args .set) (s .pre .1) (s .pre .2)
 
 histories-requires : tie.Need-histories-requires
-histories-requires c κs = search needs
+histories-requires c κs =
+    let s = c .before .before .before .before in
+    omega (arith, s .pre .1, c .history-length .ensures .short (s .args .widest) (s .pre .2))
 
 number-states-requires : tie.Need-number-states-requires
-number-states-requires c κs = search needs
+number-states-requires c κs =
+    let h = c .before in
+    let l = h .before in
+    let s = l .before .before .before .before in
+    let w = s .args .widest in (
+      set-wider w longest (s .args .set) (s .pre .1) (s .pre .2),
+      l .history-length .ensures,
+      h .histories .ensures,
+      omega (arith, s .pre .3, area-suffices w _ _ (h .histories .ensures) (l .history-length .ensures .short w (s .pre .2))),
+    )
 
 mul-size : tie.Need-mul-size
 mul-size c = search needs
@@ -30,13 +49,16 @@ returns : tie.Need-returns
 returns c =
     let k = c .before .before in
     let h = k .before .before .before .before .before in
-    let s = h .before .before .before .before .before .before in
-    let n = h .before .before .histories .result in
+    let n = h .before .before in
+    let l = n .before in
+    let a = l .before in
+    let s = a .before .before .before in
     let w = h .number-states .last .1 .1 .1 .0 in
-    let m = numberedMachine n w (h .number-states .result) in (
+    let m = numberedMachine (n .histories .result) w (h .number-states .result) in (
       m,
-      short-table (s .args .set) (s .args .work .now) (k .clear .last .0) (s .args .table .now) m (h .number-states .ensures .canonical)
-          (clear-within (s .args .work .now) w (k .clear .last .0) (h .number-states .ensures .within) (k .clear .ensures)) (k .before .before .if1 .taken),
+      short-table (s .args .widest) (s .args .set) (s .args .work .now) (k .clear .last .0) (s .args .table .now) m (h .number-states .ensures .canonical)
+          (clear-within (s .args .widest) (l .history-length .result) (n .histories .result) (a .area-size .result) (s .args .work .now) w (k .clear .last .0) (a .area-size .ensures)
+          (n .histories .ensures) (l .history-length .ensures .short (s .args .widest) (s .pre .2)) (h .number-states .ensures .within) (k .clear .ensures)) (k .before .before .if1 .taken),
     )
 
 write-table-requires : tie.Need-write-table-requires
@@ -57,19 +79,23 @@ returns-2 c =
     let t = k .before .before .before .before in
     let i = t .before .before .before in
     let h = i .before .before .before in
-    let s = h .before .before .before .before .before .before in
-    let n = h .before .before .histories .result in
+    let n = h .before .before in
+    let l = n .before in
+    let a = l .before in
+    let s = a .before .before .before in
     let w = h .number-states .last .1 .1 .1 .0 in
-    let m = numberedMachine n w (h .number-states .result) in (
+    let m = numberedMachine (n .histories .result) w (h .number-states .result) in (
       m,
-      whole-table (s .args .set) (s .args .work .now) (k .clear2 .last .0) (s .args .table .now) m (h .number-states .ensures .canonical)
-          (clear-within (s .args .work .now) w (k .clear2 .last .0) (h .number-states .ensures .within) (k .clear2 .ensures)) _ (i .if1 .left) (t .write-table .ensures),
+      whole-table (s .args .widest) (s .args .set) (s .args .work .now) (k .clear2 .last .0) (s .args .table .now) m (h .number-states .ensures .canonical)
+          (clear-within (s .args .widest) (l .history-length .result) (n .histories .result) (a .area-size .result) (s .args .work .now) w (k .clear2 .last .0) (a .area-size .ensures)
+          (n .histories .ensures) (l .history-length .ensures .short (s .args .widest) (s .pre .2)) (h .number-states .ensures .within) (k .clear2 .ensures)) _ (i .if1 .left) (t .write-table .ensures),
     )
 
 pub build-table-spec : {M : Type 1} → statement M
 build-table-spec =
     tie.close
     (tie.spec
+    area-size-requires
     history-length-requires
     histories-requires
     number-states-requires

@@ -7,16 +7,15 @@ use native.Mathlib.Omega.{arith}
 use borrow.Author.Needs.{needs}
 use lib.ListN.{length, getD, set, length-set}
 use lib.Seq.{getD-set-same, getD-set-other}
-use Rattle.classes.specs.Area.{areaSize}
 use Rattle.builder.proofs.clear.Statement.{statement}
 use Rattle.builder.proofs.clear.Tie as tie
 
 abbrev Inv-loop : tie.InvT-loop
-Inv-loop work₀ k₀ work k =
-    (k ≤ areaSize) × (length work ≡ length work₀) × ((j : ℕ) → j < k → getD work j 0 ≡ 0) × ((j : ℕ) → k ≤ j → getD work j 0 ≡ getD work₀ j 0)
+Inv-loop work₀ size k₀ work k =
+    (k ≤ size) × (length work ≡ length work₀) × ((j : ℕ) → j < k → getD work j 0 ≡ 0) × ((j : ℕ) → k ≤ j → getD work j 0 ≡ getD work₀ j 0)
 
 abbrev μ-loop : tie.MeasureT-loop
-μ-loop work₀ k₀ work k = areaSize - k
+μ-loop work₀ size k₀ work k = size - k
 
 loop-holds : tie.Need-loop-holds Inv-loop μ-loop
 loop-holds c = (omega arith, refl, λ j l. absurd (omega arith), λ j l. refl)

@@ -6,20 +6,21 @@ use borrow.Author.Count.{below-more}
 use borrow.Author.Needs.{needs}
 use Rattle.meaning.specs.Longest.{longest}
 use Rattle.meaning.specs.Limit.{width}
-use Rattle.meaning.specs.Sets.{ruleAt}
+use Rattle.meaning.specs.Sets.{SetAllowed, ruleAt}
 use Rattle.meaning.proofs.Widths.{width-allowed, set-narrower}
+use Rattle.builder.proofs.Windows.{some-window}
 use Rattle.builder.proofs.history_length.Statement.{statement}
 use Rattle.builder.proofs.history_length.Tie as tie
 
 abbrev Inv-loop : tie.InvT-loop
 Inv-loop set count length₀ i₀ length i =
-    (i ≤ count) × (length ≤ longest - 1) × ((j : ℕ) → j < i → width (ruleAt set j) ≤ suc length)
+    (i ≤ count) × ((w : ℕ) → SetAllowed w set → length < w) × ((j : ℕ) → j < i → width (ruleAt set j) ≤ suc length)
 
 abbrev μ-loop : tie.MeasureT-loop
 μ-loop set count length₀ i₀ length i = count - i
 
 loop-holds : tie.Need-loop-holds Inv-loop μ-loop
-loop-holds c = (omega arith, omega arith, λ j l. absurd (omega arith))
+loop-holds c = (omega arith, (λ w a. omega (arith, some-window w (c .args .t1) a)), λ j l. absurd (omega arith))
 
 mul-limit : tie.Need-mul-limit Inv-loop μ-loop
 mul-limit c = search needs
@@ -42,10 +43,11 @@ loop-again c =
     let s = c .before .before .before .before .before in
     let t = c .before .before .before .loop-test .taken in
     let r = c .before .reach .ensures in
-    let a = width-allowed longest (ruleAt (s .args .t1) (l .i)) (s .pre .each (l .i) t .rule-allowed) in
+    let narrow : (w : ℕ) → SetAllowed w (s .args .t1) → width (ruleAt (s .args .t1) (l .i)) ≤ w =
+    λ w a. width-allowed w (ruleAt (s .args .t1) (l .i)) (a .each (l .i) t .rule-allowed) .1 in
     ⊎-elim
-    (λ w. (omega arith, omega arith, below-more _ _ (λ j h. let g = l .inv .2 j h in omega arith) (omega arith)))
-    (λ w. (omega arith, omega arith, below-more _ _ (λ j h. let g = l .inv .2 j h in omega arith) (omega arith)))
+    (λ w. (omega arith, (λ v a. omega (arith, narrow v a)), below-more _ _ (λ j h. let g = l .inv .2 j h in omega arith) (omega arith)))
+    (λ w. (omega arith, (λ v a. omega (arith, l .inv .1 v a)), below-more _ _ (λ j h. let g = l .inv .2 j h in omega arith) (omega arith)))
     (c .if1 .came)
 
 returns : tie.Need-returns Inv-loop μ-loop

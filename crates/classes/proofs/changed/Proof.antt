@@ -11,7 +11,7 @@ use Rattle.classes.proofs.changed.Statement.{statement}
 use Rattle.classes.proofs.changed.Tie as tie
 
 abbrev Inv-loop : tie.InvT-loop
-Inv-loop work n h₀ h = (h ≤ n) × ((g : ℕ) → g < h → newClass work g ≡ classAt work g)
+Inv-loop work n h₀ h = (h ≤ n) × ((g : ℕ) → g < h → newClass n work g ≡ classAt work g)
 
 abbrev μ-loop : tie.MeasureT-loop
 μ-loop work n h₀ h = n - h

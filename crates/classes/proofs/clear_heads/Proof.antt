@@ -7,26 +7,28 @@ use borrow.Author.Count.{below-more}
 use lib.ListN.{set}
 use lib.Seq.{getD-set-same, getD-set-other}
 use Rattle.classes.specs.Chain.{head, Kept}
-use Rattle.classes.specs.Area.{region}
 use Rattle.classes.proofs.Keeping.{kept-refl, kept-trans, kept-set, room-kept}
 use Rattle.classes.proofs.Placing.{placed-none}
 use Rattle.classes.proofs.clear_heads.Statement.{statement}
 use Rattle.classes.proofs.clear_heads.Tie as tie
 
 abbrev Inv-loop : tie.InvT-loop
-Inv-loop work₀ n b₀ work b = (b ≤ n) × Kept work₀ work × ((c : ℕ) → c < b → head work c ≡ 0)
+Inv-loop work₀ n b₀ work b = (b ≤ n) × Kept n work₀ work × ((c : ℕ) → c < b → head n work c ≡ 0)
 
 abbrev μ-loop : tie.MeasureT-loop
 μ-loop work₀ n b₀ work b = n - b
 
 loop-holds : tie.Need-loop-holds Inv-loop μ-loop
-loop-holds c = (omega arith, kept-refl (c .args .work .now), λ b l. absurd (omega arith))
+loop-holds c = (omega arith, kept-refl (c .args .n) (c .args .work .now), λ b l. absurd (omega arith))
+
+mul-work : tie.Need-mul-work Inv-loop μ-loop
+mul-work c = search needs
 
 add-work : tie.Need-add-work Inv-loop μ-loop
 add-work c = search needs
 
-mul-work : tie.Need-mul-work Inv-loop μ-loop
-mul-work c = search needs
+mul-work-2 : tie.Need-mul-work-2 Inv-loop μ-loop
+mul-work-2 c = search needs
 
 slice-write-work : tie.Need-slice-write-work Inv-loop μ-loop
 slice-write-work c = search needs
@@ -41,13 +43,14 @@ loop-again : tie.Need-loop-again Inv-loop μ-loop
 loop-again c =
     let l = c .before in
     let w = l .loop .work in
+    let n = l .before .args .n in
     let b = l .loop .b in
     let I = l .loop .inv in
-    let K = kept-set w (2 * region + b) 0 (omega arith) (omega arith) in (
+    let K = kept-set n w (2 * n + b) 0 (omega arith) (omega arith) in (
       omega arith,
-      kept-trans (l .before .args .work .now) w (set w (2 * region + b) 0) (I .1) K,
-      below-more _ b (λ c l. getD-set-other w (2 * region + b) (2 * region + c) 0 0 (omega arith) ∙ I .2 c l)
-          (getD-set-same w (2 * region + b) 0 0 (omega (arith, I .1 .within .length-stays))),
+      kept-trans n (l .before .args .work .now) w (set w (2 * n + b) 0) (I .1) K,
+      below-more _ b (λ c l. getD-set-other w (2 * n + b) (2 * n + c) 0 0 (omega arith) ∙ I .2 c l)
+          (getD-set-same w (2 * n + b) 0 0 (omega (arith, I .1 .within .length-stays))),
     )
 
 same-length : tie.Need-same-length Inv-loop μ-loop
@@ -68,8 +71,9 @@ clear-heads-spec =
     Inv-loop
     μ-loop
     loop-holds
-    add-work
     mul-work
+    add-work
+    mul-work-2
     slice-write-work
     add-b
     loop-less

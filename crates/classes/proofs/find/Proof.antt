@@ -14,6 +14,9 @@ Inv-loop work n h s b next₀ next = Seek work n h s next
 abbrev μ-loop : tie.MeasureT-loop
 μ-loop work n h s b next₀ next = next
 
+mul-entry : tie.Need-mul-entry Inv-loop μ-loop
+mul-entry c = search needs
+
 add-entry : tie.Need-add-entry Inv-loop μ-loop
 add-entry c = search needs
 
@@ -26,7 +29,7 @@ loop-holds c =
     let w = s .args .work .now in
     let n = s .args .n in
     let e = s .pre .4 in
-    subst (λ z. Seek w n (s .args .h) (s .args .s) z) (sym (c .entry .ensures ∙ ap (head w) e))
+    subst (λ z. Seek w n (s .args .h) (s .args .s) z) (sym (c .entry .ensures ∙ ap (head n w) e))
     (seek-start w n (s .args .h) (s .args .s) (s .pre .1) (subst (λ z. z < n) e (s .pre .3)))
 
 sub-g : tie.Need-sub-g Inv-loop μ-loop
@@ -44,6 +47,9 @@ returns c =
     let s = l .before .before .before in
     seek-found (s .args .work .now) (s .args .n) (s .args .h) (s .args .s) (s .pre .1) (l .loop .next) (l .loop .inv) (omega arith)
     (sym (c .before .signature .ensures .0) ∙ c .if1 .taken)
+
+mul-entry-2 : tie.Need-mul-entry-2 Inv-loop μ-loop
+mul-entry-2 c = search needs
 
 add-entry-2 : tie.Need-add-entry-2 Inv-loop μ-loop
 add-entry-2 c = search needs
@@ -77,12 +83,14 @@ find-spec =
     (tie.spec
     Inv-loop
     μ-loop
+    mul-entry
     add-entry
     entry-requires
     loop-holds
     sub-g
     signature-requires
     returns
+    mul-entry-2
     add-entry-2
     entry-requires-2
     loop-less

@@ -38,20 +38,26 @@ returns c =
     placed-joined (s .args .work .now) (s .args .n) (s .args .h) (g .signature .result) (f .find .result) (s .pre .0) (s .pre .1)
     (g .signature .ensures .0) (f .find .ensures) (c .if1 .taken)
 
+mul-head : tie.Need-mul-head
+mul-head c = search needs
+
 add-head : tie.Need-add-head
 add-head c = search needs
 
-mul-head : tie.Need-mul-head
-mul-head c = search needs
+mul-head-2 : tie.Need-mul-head-2
+mul-head-2 c = search needs
 
 slice-read-head : tie.Need-slice-read-head
 slice-read-head c = simp length-set (omega arith)
 
+mul-work-2 : tie.Need-mul-work-2
+mul-work-2 c = search needs
+
 add-work-2 : tie.Need-add-work-2
 add-work-2 c = search needs
 
-mul-work-2 : tie.Need-mul-work-2
-mul-work-2 c = search needs
+mul-work-3 : tie.Need-mul-work-3
+mul-work-3 c = search needs
 
 slice-write-work-2 : tie.Need-slice-write-work-2
 slice-write-work-2 c = simp length-set (omega arith)
@@ -62,11 +68,14 @@ add-work-3 c = search needs
 cast-work-2 : tie.Need-cast-work-2
 cast-work-2 c = search needs
 
+mul-work-4 : tie.Need-mul-work-4
+mul-work-4 c = search needs
+
 add-work-4 : tie.Need-add-work-4
 add-work-4 c = search needs
 
-mul-work-3 : tie.Need-mul-work-3
-mul-work-3 c = search needs
+mul-work-5 : tie.Need-mul-work-5
+mul-work-5 c = search needs
 
 slice-write-work-3 : tie.Need-slice-write-work-3
 slice-write-work-3 c = simp length-set (omega arith)
@@ -96,16 +105,19 @@ place-spec =
     slice-write-work
     same-length
     returns
-    add-head
     mul-head
+    add-head
+    mul-head-2
     slice-read-head
-    add-work-2
     mul-work-2
+    add-work-2
+    mul-work-3
     slice-write-work-2
     add-work-3
     cast-work-2
+    mul-work-4
     add-work-4
-    mul-work-3
+    mul-work-5
     slice-write-work-3
     same-length-2
     returns-2)

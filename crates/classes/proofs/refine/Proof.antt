@@ -26,7 +26,7 @@ returns c =
     record {
       within = R .kept .within;
       further = λ e. absurd (false≢true e);
-      settled = λ _ set m k e S. stage-settled set m k (s .args .n) (s .args .work .now) (r .round .last .0) e (s .pre .fits) R S
+      settled = λ _ set m k e S. stage-settled set m k (s .args .n) (s .args .work .now) (r .round .last .0) e R S
           (c .before .changed .ensures (not-true _ (c .if1 .taken)));
     }
 
@@ -46,8 +46,8 @@ returns-2 c =
     let s = r .before .before .before in
     let R = r .round .ensures in
     record {
-      within = within-trans (s .args .work .now) (r .round .last .0) (v .renew .last .0) (R .kept .within) (v .renew .ensures .within);
-      further = λ _ set m k e S. stage-next set m k (s .args .n) (s .args .work .now) (r .round .last .0) e (s .pre .fits) R S (v .renew .last .0) (v .renew .ensures);
+      within = within-trans (s .args .n) (s .args .work .now) (r .round .last .0) (v .renew .last .0) (R .kept .within) (v .renew .ensures .within);
+      further = λ _ set m k e S. stage-next set m k (s .args .n) (s .args .work .now) (r .round .last .0) e R S (v .renew .last .0) (v .renew .ensures);
       settled = λ e. absurd (true≢false e);
     }
 

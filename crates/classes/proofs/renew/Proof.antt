@@ -8,13 +8,13 @@ use lib.Dec.{leb}
 use lib.ListN.{length, getD, set, length-set}
 use lib.Seq.{getD-set-same, getD-set-other}
 use Rattle.classes.specs.Chain.{newClass}
-use Rattle.classes.specs.Area.{region, high, classAt, mayAt}
+use Rattle.classes.specs.Area.{high, classAt, mayAt}
 use Rattle.classes.proofs.Entries.{renewed-class, renewed-may}
 use Rattle.classes.proofs.renew.Statement.{statement}
 use Rattle.classes.proofs.renew.Tie as tie
 
 abbrev Inv-loop : tie.InvT-loop
-Inv-loop work₀ n h₀ work h = (h ≤ n) × (length work ≡ length work₀) × ((g : ℕ) → g < h → (classAt work g ≡ newClass work₀ g) × (mayAt work g ≡ mayAt work₀ g)) × ((g : ℕ) → h ≤ g → getD work g 0 ≡ getD work₀ g 0)
+Inv-loop work₀ n h₀ work h = (h ≤ n) × (length work ≡ length work₀) × ((g : ℕ) → g < h → (classAt work g ≡ newClass n work₀ g) × (mayAt work g ≡ mayAt work₀ g)) × ((g : ℕ) → h ≤ g → getD work g 0 ≡ getD work₀ g 0)
 
 abbrev μ-loop : tie.MeasureT-loop
 μ-loop work₀ n h₀ work h = n - h
@@ -44,7 +44,7 @@ add-work : tie.Need-add-work Inv-loop μ-loop
 add-work c =
     let l = c .before .before .before in
     let h = l .loop .h in
-    omega (arith, c .before .slice-known .given h, l .loop .inv .3 (region + h) (omega arith), l .before .pre .1 h (c .before .before .loop-test .taken))
+    omega (arith, c .before .slice-known .given h, l .loop .inv .3 (l .before .args .n + h) (omega arith), l .before .pre .1 h (c .before .before .loop-test .taken))
 
 mul-work-2 : tie.Need-mul-work-2 Inv-loop μ-loop
 mul-work-2 c = search needs
@@ -63,17 +63,18 @@ loop-again c =
     let l = c .before .before .before in
     let w = l .loop .work in
     let w₀ = l .before .args .work .now in
+    let n = l .before .args .n in
     let h = l .loop .h in
     let I = l .loop .inv in
-    let class : ℕ = getD w (region + h) 0 in
+    let class : ℕ = getD w (n + h) 0 in
     let v : ℕ = getD w h 0 / high * high + class in
-    let was : class ≡ newClass w₀ h = I .3 (region + h) (omega arith) in
+    let was : class ≡ newClass n w₀ h = I .3 (n + h) (omega arith) in
     let small : class < high = omega (arith, l .before .pre .1 h (c .before .before .loop-test .taken)) in
     let same : getD (set w h v) h 0 ≡ v = getD-set-same w h v 0 (omega arith) in
     let off : (g : ℕ) → (g ≡ h → ⊥) → getD (set w h v) g 0 ≡ getD w g 0 = λ g d. getD-set-other w h g v 0 d in (
       omega arith,
       length-set w h v ∙ I .1,
-      below-more (λ g. (classAt (set w h v) g ≡ newClass w₀ g) × (mayAt (set w h v) g ≡ mayAt w₀ g)) h
+      below-more (λ g. (classAt (set w h v) g ≡ newClass n w₀ g) × (mayAt (set w h v) g ≡ mayAt w₀ g)) h
           (λ g k. (ap (λ z. z % high) (off g (omega arith)) ∙ I .2 g k .0, ap (leb high) (off g (omega arith)) ∙ I .2 g k .1)) (
             ap (λ z. z % high) same ∙ renewed-class (getD w h 0) class small ∙ was,
             ap (leb high) same ∙ renewed-may (getD w h 0) class small ∙ ap (leb high) (I .3 h (omega arith)),

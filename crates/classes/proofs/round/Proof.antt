@@ -10,7 +10,7 @@ use Rattle.classes.proofs.round.Statement.{statement}
 use Rattle.classes.proofs.round.Tie as tie
 
 abbrev Inv-loop : tie.InvT-loop
-Inv-loop work₀ n h₀ work h = (h ≤ n) × Placed work n h × Kept work₀ work
+Inv-loop work₀ n h₀ work h = (h ≤ n) × Placed work n h × Kept n work₀ work
 
 abbrev μ-loop : tie.MeasureT-loop
 μ-loop work₀ n h₀ work h = n - h
@@ -21,7 +21,7 @@ clear-heads-requires c κs = search needs
 loop-holds : tie.Need-loop-holds Inv-loop μ-loop
 loop-holds c =
     let k = c .before .before .clear-heads in
-    (omega arith, k .ensures .0, kept-refl (k .last .0))
+    (omega arith, k .ensures .0, kept-refl (c .before .before .before .before .before .args .n) (k .last .0))
 
 place-requires : tie.Need-place-requires Inv-loop μ-loop
 place-requires c κs = search needs
@@ -37,7 +37,7 @@ loop-again c =
     let p = c .before .before in
     let l = p .before .before .before in
     let k = l .before .before .before .clear-heads in
-    (omega arith, p .place .ensures .0, kept-trans (k .last .0) (l .loop .work) (p .place .last .0) (l .loop .inv .2) (p .place .ensures .1))
+    (omega arith, p .place .ensures .0, kept-trans (l .before .before .before .before .before .before .args .n) (k .last .0) (l .loop .work) (p .place .last .0) (l .loop .inv .2) (p .place .ensures .1))
 
 same-length : tie.Need-same-length Inv-loop μ-loop
 same-length c = search needs
@@ -50,7 +50,7 @@ returns c =
     let w = s .args .work .now in
     let n = s .args .n in
     let e : l .loop .h ≡ n = omega arith in
-    rounded n w (l .loop .work) (s .pre) (kept-trans w (k .clear-heads .last .0) (l .loop .work) (k .clear-heads .ensures .1) (l .loop .inv .2))
+    rounded n w (l .loop .work) (s .pre) (kept-trans n w (k .clear-heads .last .0) (l .loop .work) (k .clear-heads .ensures .1) (l .loop .inv .2))
     (subst (λ z. Grouped (l .loop .work) n z) e (l .loop .inv .1 .grouped))
 
 pub round-spec : {M : Type 1} → statement M

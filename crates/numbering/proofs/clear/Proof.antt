@@ -4,7 +4,6 @@ use Prim.Native.Nat.{ℕ, _+_, _-_, _*_, _≤_, _<_}
 use native.Mathlib.Omega.{arith}
 use borrow.Author.Needs.{needs}
 use borrow.Author.Count.{below-more}
-use Rattle.classes.specs.Area.{region}
 use Rattle.numbering.specs.Numbered.{numberAt}
 use Rattle.numbering.specs.Work.{Kept}
 use Rattle.numbering.proofs.Keeping.{kept-trans, kept-store}
@@ -13,7 +12,7 @@ use Rattle.numbering.proofs.clear.Statement.{statement}
 use Rattle.numbering.proofs.clear.Tie as tie
 
 abbrev Inv-loop : tie.InvT-loop
-Inv-loop n work₀ c₀ work c = (c ≤ n) × Kept work₀ work × ((k : ℕ) → k < c → numberAt work k ≡ 0)
+Inv-loop n work₀ c₀ work c = (c ≤ n) × Kept n work₀ work × ((k : ℕ) → k < c → numberAt n work k ≡ 0)
 
 abbrev μ-loop : tie.MeasureT-loop
 μ-loop n work₀ c₀ work c = n - c
@@ -21,11 +20,14 @@ abbrev μ-loop : tie.MeasureT-loop
 loop-holds : tie.Need-loop-holds Inv-loop μ-loop
 loop-holds c = search needs
 
+mul-work : tie.Need-mul-work Inv-loop μ-loop
+mul-work c = search needs
+
 add-work : tie.Need-add-work Inv-loop μ-loop
 add-work c = search needs
 
-mul-work : tie.Need-mul-work Inv-loop μ-loop
-mul-work c = search needs
+mul-work-2 : tie.Need-mul-work-2 Inv-loop μ-loop
+mul-work-2 c = search needs
 
 slice-write-work : tie.Need-slice-write-work Inv-loop μ-loop
 slice-write-work c = search needs
@@ -40,14 +42,15 @@ loop-again : tie.Need-loop-again Inv-loop μ-loop
 loop-again c =
     let l = c .before in
     let w = l .loop .work in
+    let n = l .before .args .n in
     let k = l .loop .c in
     let I = l .loop .inv in
     let R = l .before .pre in (
       omega arith,
-      kept-trans (I .1) (kept-store w (2 * region + k) 0 (omega arith) (omega (arith, R .fits))),
+      kept-trans (I .1) (kept-store n w (2 * n + k) 0 (omega arith) (omega arith)),
       below-more _ k
-          (λ j jl. getD-set-other w (2 * region + k) (2 * region + j) 0 0 (omega arith) ∙ I .2 j jl)
-          (getD-set-same w (2 * region + k) 0 0 (omega (arith, R .fits, R .room, I .1 .within .length-stays))),
+          (λ j jl. getD-set-other w (2 * n + k) (2 * n + j) 0 0 (omega arith) ∙ I .2 j jl)
+          (getD-set-same w (2 * n + k) 0 0 (omega (arith, R .room, I .1 .within .length-stays))),
     )
 
 same-length : tie.Need-same-length Inv-loop μ-loop
@@ -65,8 +68,9 @@ clear-spec =
     Inv-loop
     μ-loop
     loop-holds
-    add-work
     mul-work
+    add-work
+    mul-work-2
     slice-write-work
     add-c
     loop-less

@@ -3,21 +3,24 @@ use mathlib.Core.Path.{sym, _∙_, subst}
 use Prim.Native.Nat.{_<_}
 use native.Mathlib.Omega.{arith}
 use borrow.Author.Needs.{needs}
-use Rattle.classes.specs.Area.{region, classAt}
+use Rattle.classes.specs.Area.{classAt}
 use Rattle.numbering.specs.Numbered.{classOf}
 use Rattle.numbering.specs.Rows.{Visited}
 use Rattle.numbering.proofs.Reading.{read-none, read-more}
 use Rattle.numbering.proofs.follow.Statement.{statement}
 use Rattle.numbering.proofs.follow.Tie as tie
 
-class-below : (s : tie.Start) → classOf (s .args .work .now) (s .args .i) < region
-class-below s = omega (arith, s .pre .1 .ready .fits, s .pre .1 .ordered .histories (s .args .i) (s .pre .0))
+class-below : (s : tie.Start) → classOf (s .args .n) (s .args .work .now) (s .args .i) < s .args .n
+class-below s = s .pre .1 .ordered .histories (s .args .i) (s .pre .0)
+
+mul-class : tie.Need-mul-class
+mul-class c = search needs
 
 add-class : tie.Need-add-class
 add-class c = search needs
 
-mul-class : tie.Need-mul-class
-mul-class c = search needs
+mul-class-2 : tie.Need-mul-class-2
+mul-class-2 c = search needs
 
 slice-read-class : tie.Need-slice-read-class
 slice-read-class c = search needs
@@ -33,7 +36,7 @@ may-follow-requires c κs =
 push-index-requires : tie.Need-push-index-requires
 push-index-requires c κs =
     let s = c .before .before .before .before .before .before in
-    (s .pre .1 .ordered .histories (s .args .i) (s .pre .0), omega (arith, s .pre .1 .ready .fits))
+    (class-below s, omega (arith, s .pre .1 .ready .fits))
 
 visit-requires : tie.Need-visit-requires
 visit-requires c κs = search needs
@@ -65,8 +68,9 @@ pub follow-spec : {M : Type 1} → statement M
 follow-spec =
     tie.close
     (tie.spec
-    add-class
     mul-class
+    add-class
+    mul-class-2
     slice-read-class
     cast-class
     may-follow-requires

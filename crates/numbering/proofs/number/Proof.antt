@@ -13,7 +13,7 @@ use Rattle.numbering.proofs.number.Statement.{statement}
 use Rattle.numbering.proofs.number.Tie as tie
 
 abbrev Inv-loop : tie.InvT-loop
-Inv-loop n work₀ count₀ i₀ work count i = (i ≤ count) × Numbering n work count (place i false) × Kept work₀ work
+Inv-loop n work₀ count₀ i₀ work count i = (i ≤ count) × Numbering n work count (place i false) × Kept n work₀ work
 
 abbrev μ-loop : tie.MeasureT-loop
 μ-loop n work₀ count₀ i₀ work count i = n - i
@@ -26,7 +26,7 @@ visit-start-requires c κs =
 loop-holds : tie.Need-loop-holds Inv-loop μ-loop
 loop-holds c =
     let v = c .before .before .visit-start in
-    (omega arith, v .ensures .numbering, kept-none (v .last .1 .0))
+    (omega arith, v .ensures .numbering, kept-none (c .before .before .before .before .before .args .n) (v .last .1 .0))
 
 follow-requires : tie.Need-follow-requires Inv-loop μ-loop
 follow-requires c κs = (c .before .loop-test .taken, c .before .before .loop .inv .1)

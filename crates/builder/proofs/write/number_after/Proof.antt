@@ -19,11 +19,14 @@ shared-slice-read-class c = search needs
 cast-class : tie.Need-cast-class
 cast-class c = search needs
 
+mul-result : tie.Need-mul-result
+mul-result c = search needs
+
 add-result : tie.Need-add-result
 add-result c = search needs
 
-mul-result : tie.Need-mul-result
-mul-result c = search needs
+mul-result-2 : tie.Need-mul-result-2
+mul-result-2 c = search needs
 
 shared-slice-read-result : tie.Need-shared-slice-read-result
 shared-slice-read-result c =
@@ -34,8 +37,9 @@ shared-slice-read-result c =
 returns : tie.Need-returns
 returns c =
     let p = c .before .before in
-    let w = p .before .before .args .work .now in
-    ap (λ h. numberAt w (classAt w h)) (p .push-index .ensures .0)
+    let a = p .before .before .args in
+    let w = a .work .now in
+    ap (λ h. numberAt (a .n) w (classAt w h)) (p .push-index .ensures .0)
 
 pub number-after-spec : {M : Type 1} → statement M
 number-after-spec =
@@ -45,7 +49,8 @@ number-after-spec =
     mul-class
     shared-slice-read-class
     cast-class
-    add-result
     mul-result
+    add-result
+    mul-result-2
     shared-slice-read-result
     returns)

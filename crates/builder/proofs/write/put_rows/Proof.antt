@@ -6,7 +6,7 @@ use Prim.Native.Nat.{ℕ, _+_, _-_, _*_, _≤_}
 use native.Mathlib.Omega.{arith}
 use borrow.Author.Needs.{needs}
 use lib.ListN.{length, take, drop}
-use Rattle.classes.specs.Area.{region, mayAt}
+use Rattle.classes.specs.Area.{mayAt}
 use Rattle.numbering.specs.Numbered.{classOf, numberAfter, moveOf, numberedMachine}
 use Rattle.table.specs.Bytes.{pairBytes, entryOf, noMiss}
 use Rattle.builder.proofs.Stores.{rowsIn, no-rows, row-more}
@@ -27,17 +27,20 @@ entry-miss n w h false e = rw e
 loop-holds : tie.Need-loop-holds Inv-loop μ-loop
 loop-holds c = (omega arith, refl, no-rows _ _)
 
+mul-history : tie.Need-mul-history Inv-loop μ-loop
+mul-history c = search needs
+
 add-history : tie.Need-add-history Inv-loop μ-loop
 add-history c = search needs
 
-mul-history : tie.Need-mul-history Inv-loop μ-loop
-mul-history c = search needs
+mul-history-2 : tie.Need-mul-history-2 Inv-loop μ-loop
+mul-history-2 c = search needs
 
 shared-slice-read-history : tie.Need-shared-slice-read-history Inv-loop μ-loop
 shared-slice-read-history c = let s = c .before .before .before .before .before in omega (arith, s .pre .0 .entries .room, s .pre .0 .entries .fits, s .pre .0 .no-more)
 
 cast-history : tie.Need-cast-history Inv-loop μ-loop
-cast-history c = omega (arith, c .shared-slice-known2 .given (3 * region + c .before .before .loop .i))
+cast-history c = omega (arith, c .shared-slice-known2 .given (3 * c .before .before .before .before .before .args .n + c .before .before .loop .i))
 
 miss-entry-requires : tie.Need-miss-entry-requires Inv-loop μ-loop
 miss-entry-requires c κs =
@@ -78,7 +81,7 @@ loop-again c =
     let i = l .loop .i in
     let w = s .args .work .now in
     let m = numberedMachine (s .args .n) w (s .args .count) in
-    let x = h .before .miss-entry .ensures ∙ entry-miss (s .args .n) w (classOf w i) (mayAt w (classOf w i)) refl in
+    let x = h .before .miss-entry .ensures ∙ entry-miss (s .args .n) w (classOf (s .args .n) w i) (mayAt w (classOf (s .args .n) w i)) refl in
     let y = h .hit-entry .ensures in
     let out = l .loop .out in (
       omega arith,
@@ -105,8 +108,9 @@ put-rows-spec =
     Inv-loop
     μ-loop
     loop-holds
-    add-history
     mul-history
+    add-history
+    mul-history-2
     shared-slice-read-history
     cast-history
     miss-entry-requires
