@@ -39,18 +39,18 @@ use Rattle.guard.specs.Guard.{StartedAs, AskedAs, tellRows, ToldAs}
 use Rattle.guard.specs.Told.{heard}
 use Rattle.guard.specs.Row.{rowStartRows, RowStartedAs, rowAskRows, RowAskedAs, rowTellRows, RowToldAs}
 use Rattle.guard.specs.Runs.{RowCall, RowRun, callsOf, OnTable, bytesTold}
-use Rattle.floelinnet.specs.declared.FloeSetRead.{FloeSetRead}
-use Rattle.floelinnet.specs.declared.FloeWritten.{FloeWritten}
-use Rattle.floelinnet.specs.declared.FloeVerdict.{FloeVerdict}
-use Rattle.floelinnet.specs.declared.FloeComparison.{FloeComparison}
-use Rattle.floelinnet.specs.declared.FloeBuilt.{FloeBuilt}
-use Rattle.floelinnet.specs.declared.FloeChecked.{FloeChecked}
-use Rattle.floelinnet.specs.declared.FloeStarted.{FloeStarted}
-use Rattle.floelinnet.specs.declared.FloeAsked.{FloeAsked}
-use Rattle.floelinnet.specs.declared.FloeTold.{FloeTold}
-use Rattle.floelinnet.specs.declared.FloeDone.{FloeDone}
-use Rattle.floelinnet.specs.declared.FloeRowAsked.{FloeRowAsked}
-use Rattle.floelinnet.specs.Flat.{FlatAnswer, flatSet, flatWritten, flatVerdict, flatComparison, flatBuilt, flatChecked, flatStarted, flatAsked, flatTold, flatStart, flatAsk, flatTell}
+use Rattle.flat.specs.declared.FloeSetRead.{FloeSetRead}
+use Rattle.flat.specs.declared.FloeWritten.{FloeWritten}
+use Rattle.flat.specs.declared.FloeVerdict.{FloeVerdict}
+use Rattle.flat.specs.declared.FloeComparison.{FloeComparison}
+use Rattle.flat.specs.declared.FloeBuilt.{FloeBuilt}
+use Rattle.flat.specs.declared.FloeChecked.{FloeChecked}
+use Rattle.flat.specs.declared.FloeStarted.{FloeStarted}
+use Rattle.flat.specs.declared.FloeAsked.{FloeAsked}
+use Rattle.flat.specs.declared.FloeTold.{FloeTold}
+use Rattle.flat.specs.declared.FloeDone.{FloeDone}
+use Rattle.flat.specs.declared.FloeRowAsked.{FloeRowAsked}
+use Rattle.flat.specs.Flat.{FlatAnswer, flatSet, flatWritten, flatVerdict, flatComparison, flatBuilt, flatChecked, flatStarted, flatAsked, flatTold, flatStart, flatAsk, flatTell}
 use Rattle.demands.specs.Refusing.{RefusesFlat}
 use Rattle.demands.specs.TableOf.{TableOf}
 use Rattle.demands.specs.Judging.{Keeps}

@@ -24,9 +24,9 @@ use Rattle.carry.specs.Write.{RecordWrittenAs}
 use Rattle.carry.specs.Read.{guardAt, guardWhen, ReadBackAs}
 use Rattle.carry.proofs.RoundTrip.{same-record, one-record}
 use Rattle.carry.proofs.Back.{written-record}
-use Rattle.floelinnet.specs.declared.FloeWritten.{FloeWritten}
-use Rattle.floelinnet.specs.declared.FloeStarted.{FloeStarted}
-use Rattle.floelinnet.specs.Flat.{FlatAnswer, flatWritten, flatStarted}
+use Rattle.flat.specs.declared.FloeWritten.{FloeWritten}
+use Rattle.flat.specs.declared.FloeStarted.{FloeStarted}
+use Rattle.flat.specs.Flat.{FlatAnswer, flatWritten, flatStarted}
 use Rattle.demands.specs.Refusing.{Refuses, RefusesFlat}
 use Rattle.demands.specs.TableOf.{TableOf}
 use Rattle.demands.specs.Carrying.{Changed, Event, Through}

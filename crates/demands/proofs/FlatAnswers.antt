@@ -37,7 +37,7 @@ use Rattle.guard.specs.declared.AskAnswer.the-variants as ask
 use Rattle.guard.specs.declared.TellAnswer.{TellAnswer}
 use Rattle.guard.specs.declared.TellAnswer.the-variants as tell
 use Rattle.guard.specs.Guard.{startSays, askSays, tellSays}
-use Rattle.floelinnet.specs.Flat.{flatSet, flatSetOf, flatWritten, flatVerdict, flatBuilt, flatChecked, flatStart, flatAsk, flatTell, flatOpened, flatRead}
+use Rattle.flat.specs.Flat.{flatSet, flatSetOf, flatWritten, flatVerdict, flatBuilt, flatChecked, flatStart, flatAsk, flatTell, flatOpened, flatRead}
 use Rattle.demands.specs.Refusing.{RefusesFlat}
 use Rattle.demands.specs.Guarding.{ByKept, ByKeptFlat}
 use Rattle.demands.proofs.Refusing.{numberOf, atOf, refuses-flat}

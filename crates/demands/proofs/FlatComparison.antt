@@ -13,8 +13,8 @@ use Rattle.compare.specs.declared.CompareAnswer.{CompareAnswer}
 use Rattle.compare.specs.declared.CompareAnswer.the-variants as compare
 use Rattle.compare.specs.declared.Pattern.{Pattern}
 use Rattle.compare.specs.Compare.{BothTested, both-passed, one-refused, in-turn, says as compare-says, Answers, ComparedAs}
-use Rattle.floelinnet.specs.declared.FloeComparison.{FloeComparison}
-use Rattle.floelinnet.specs.Flat.{FlatAnswer, flatCompared, flatComparison}
+use Rattle.flat.specs.declared.FloeComparison.{FloeComparison}
+use Rattle.flat.specs.Flat.{FlatAnswer, flatCompared, flatComparison}
 use Rattle.demands.proofs.Answers.{one-of}
 
 module _ (a b : List ℕ) (f : FloeComparison) (flat : FlatAnswer (ComparedAs longest a b) flatComparison f) where

@@ -35,11 +35,11 @@ use Rattle.night_log.specs.Write.{LogWrittenAs}
 use Rattle.night_log.specs.Judge.{logJudgeRows, LogJudgedAs}
 use Rattle.night_log.specs.Reader.{NextAs}
 use Rattle.night_log.proofs.OneResult.{gives, readWhen, read-known}
-use Rattle.floelinnet.specs.declared.FloeWritten.{FloeWritten}
-use Rattle.floelinnet.specs.declared.FloeVerdict.{FloeVerdict}
-use Rattle.floelinnet.specs.declared.FloeLogOpened.{FloeLogOpened}
-use Rattle.floelinnet.specs.declared.FloeLogRead.{FloeLogRead}
-use Rattle.floelinnet.specs.Flat.{FlatAnswer, flatWritten, flatVerdict, flatOpened, flatLogRead}
+use Rattle.flat.specs.declared.FloeWritten.{FloeWritten}
+use Rattle.flat.specs.declared.FloeVerdict.{FloeVerdict}
+use Rattle.flat.specs.declared.FloeLogOpened.{FloeLogOpened}
+use Rattle.flat.specs.declared.FloeLogRead.{FloeLogRead}
+use Rattle.flat.specs.Flat.{FlatAnswer, flatWritten, flatVerdict, flatOpened, flatLogRead}
 use Rattle.demands.specs.Refusing.{Refuses, RefusesFlat}
 use Rattle.demands.specs.Judging.{KeepsLog}
 use Rattle.demands.specs.Reading.{ByOutcomes}

@@ -27,20 +27,20 @@ use Rattle.carry.specs.Bytes.{carried}
 use Rattle.carry.specs.Write.{RecordWrittenAs}
 use Rattle.carry.specs.Read.{ReadBackAs}
 use Rattle.carry.proofs.OneResult.{record-written-one-result, read-back-one-result}
-use Rattle.floelinnet.specs.declared.FloeSetRead.{FloeSetRead}
-use Rattle.floelinnet.specs.declared.FloeWritten.{FloeWritten}
-use Rattle.floelinnet.specs.declared.FloeVerdict.{FloeVerdict}
-use Rattle.floelinnet.specs.declared.FloeComparison.{FloeComparison}
-use Rattle.floelinnet.specs.declared.FloeBuilt.{FloeBuilt}
-use Rattle.floelinnet.specs.declared.FloeChecked.{FloeChecked}
-use Rattle.floelinnet.specs.declared.FloeStarted.{FloeStarted}
-use Rattle.floelinnet.specs.declared.FloeAsked.{FloeAsked}
-use Rattle.floelinnet.specs.declared.FloeTold.{FloeTold}
-use Rattle.floelinnet.specs.declared.FloeDone.{FloeDone}
-use Rattle.floelinnet.specs.declared.FloeRowAsked.{FloeRowAsked}
-use Rattle.floelinnet.specs.declared.FloeLogOpened.{FloeLogOpened}
-use Rattle.floelinnet.specs.declared.FloeLogRead.{FloeLogRead}
-use Rattle.floelinnet.specs.Flat.{FlatAnswer, flatSet, flatWritten, flatVerdict, flatComparison, flatBuilt, flatChecked, flatStart, flatAsk, flatTell, flatStarted, flatAsked, flatTold, flatOpened, flatLogRead}
+use Rattle.flat.specs.declared.FloeSetRead.{FloeSetRead}
+use Rattle.flat.specs.declared.FloeWritten.{FloeWritten}
+use Rattle.flat.specs.declared.FloeVerdict.{FloeVerdict}
+use Rattle.flat.specs.declared.FloeComparison.{FloeComparison}
+use Rattle.flat.specs.declared.FloeBuilt.{FloeBuilt}
+use Rattle.flat.specs.declared.FloeChecked.{FloeChecked}
+use Rattle.flat.specs.declared.FloeStarted.{FloeStarted}
+use Rattle.flat.specs.declared.FloeAsked.{FloeAsked}
+use Rattle.flat.specs.declared.FloeTold.{FloeTold}
+use Rattle.flat.specs.declared.FloeDone.{FloeDone}
+use Rattle.flat.specs.declared.FloeRowAsked.{FloeRowAsked}
+use Rattle.flat.specs.declared.FloeLogOpened.{FloeLogOpened}
+use Rattle.flat.specs.declared.FloeLogRead.{FloeLogRead}
+use Rattle.flat.specs.Flat.{FlatAnswer, flatSet, flatWritten, flatVerdict, flatComparison, flatBuilt, flatChecked, flatStart, flatAsk, flatTell, flatStarted, flatAsked, flatTold, flatOpened, flatLogRead}
 
 one-flat : {A R : Type 0} (promise : A → Type 0) (flat : A → R) → ((a b : A) → promise a → promise b → a ≡ b) → (r t : R) → FlatAnswer promise flat r → FlatAnswer promise flat t → r ≡ t
 one-flat promise flat one r t (a, p, e) (b, q, f) = e ∙ ap flat (one a b p q) ∙ sym f

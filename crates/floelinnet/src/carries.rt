@@ -5,10 +5,9 @@ ghost use Rattle.guard.specs.Guard.{fresh};
 ghost use Rattle.carry.specs.Bytes.{carried};
 ghost use Rattle.carry.specs.Write.{RecordWrittenAs};
 ghost use Rattle.carry.specs.Read.{ReadBackAs};
-ghost use Rattle.floelinnet.specs.Flat.{FlatAnswer, flatWritten, flatStarted};
-use super::FloeStarted;
-use super::FloeWritten;
-use super::flat;
+ghost use Rattle.flat.specs.Flat.{FlatAnswer, flatWritten, flatStarted};
+use flat::FloeStarted;
+use flat::FloeWritten;
 use guard::Guard;
 
 #[no_mangle]

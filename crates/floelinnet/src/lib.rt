@@ -1,5 +1,5 @@
 // The C boundary: each function says in a flat record what the library function behind it answers.
-// Every answer begins with the number of the refusal, 0 for none, and what the rules return beside it.
+// The records and what they say are `flat`'s.
 ghost use Rattle.meaning.specs.Longest.{longest};
 ghost use Rattle.sets.specs.Read.{ReadAs};
 ghost use Rattle.sets.specs.Write.{WrittenAs};
@@ -8,12 +8,20 @@ ghost use Rattle.compare.specs.Compare.{ComparedAs};
 ghost use Rattle.builder.specs.Build.{BuiltAs};
 ghost use Rattle.table.specs.Check.{CheckedAs};
 ghost use Rattle.guard.specs.Guard.{StartedAs, AskedAs, ToldAs};
-ghost use Rattle.floelinnet.specs.Flat.{FlatAnswer, flatSet, flatWritten, flatVerdict, flatComparison, flatBuilt, flatChecked, flatStarted, flatAsked, flatTold};
+ghost use Rattle.flat.specs.Flat.{FlatAnswer, flatSet, flatWritten, flatVerdict, flatComparison, flatBuilt, flatChecked, flatStarted, flatAsked, flatTold};
+use flat::FloeAsked;
+use flat::FloeBuilt;
+use flat::FloeChecked;
+use flat::FloeComparison;
+use flat::FloeSetRead;
+use flat::FloeStarted;
+use flat::FloeTold;
+use flat::FloeVerdict;
+use flat::FloeWritten;
 use guard::Guard;
 use meaning::LimitSet;
 
 mod carries;
-mod flat;
 mod log;
 mod row;
 
@@ -28,128 +36,11 @@ pub use row::floe_row_ask;
 pub use row::floe_row_start;
 pub use row::floe_row_tell;
 
-#[repr(C)]
-pub struct FloeSetRead {
-    pub refused: u64,
-    pub at: u64,
-    pub set: LimitSet,
-}
-
-#[repr(C)]
-pub struct FloeWritten {
-    pub refused: u64,
-    pub at: u64,
-    pub length: u64,
-}
-
-// kept: 1 or 0, and 0 on a refusal. first: where to look, 0 where nothing is lost.
-#[repr(C)]
-pub struct FloeVerdict {
-    pub refused: u64,
-    pub at: u64,
-    pub kept: u64,
-    pub job: u64,
-    pub limit: u64,
-    pub first: i64,
-}
-
-// which: the set that is refused, 1 or 2, else 0. Places of the pattern past its length are 0.
-#[repr(C)]
-pub struct FloeComparison {
-    pub refused: u64,
-    pub at: u64,
-    pub which: u64,
-    pub covers: u64,
-    pub length: u64,
-    pub pattern: [u8; 16],
-}
-
-#[repr(C)]
-pub struct FloeBuilt {
-    pub refused: u64,
-    pub at: u64,
-    pub length: u64,
-}
-
-#[repr(C)]
-pub struct FloeChecked {
-    pub refused: u64,
-    pub at: u64,
-    pub states: u64,
-}
-
-#[repr(C)]
-pub struct FloeStarted {
-    pub refused: u64,
-    pub at: u64,
-    pub guard: Guard,
-}
-
-// answer: 0 normal, 1 panic, 2 lost, 3 refused.
-#[repr(C)]
-pub struct FloeAsked {
-    pub refused: u64,
-    pub at: u64,
-    pub answer: u64,
-    pub guard: Guard,
-}
-
-#[repr(C)]
-pub struct FloeTold {
-    pub refused: u64,
-    pub at: u64,
-    pub guard: Guard,
-}
-
-#[repr(C)]
-pub struct FloeDone {
-    pub refused: u64,
-    pub at: u64,
-}
-
-// answer: 0 normal, 1 panic, 2 lost, 3 refused.
-#[repr(C)]
-pub struct FloeRowAsked {
-    pub refused: u64,
-    pub at: u64,
-    pub answer: u64,
-}
-
-#[repr(C)]
-pub struct FloeLogOpened {
-    pub refused: u64,
-    pub at: u64,
-    pub place: u64,
-}
-
-// answer: 0 miss, 1 hit, 2 end, 3 refused. place: where the reader then stands.
-#[repr(C)]
-pub struct FloeLogRead {
-    pub refused: u64,
-    pub at: u64,
-    pub answer: u64,
-    pub place: u64,
-}
-
 #[no_mangle]
 pub extern "C" fn floe_read_set(set: &[u8]) -> FloeSetRead
     ensures { λ r. ⌜ FlatAnswer (ReadAs longest (now (set .entry))) flatSet r ⌝ }
 {
-    let read = sets::read_set(set);
-    let answer = read.answer;
-    let found = read.set;
-    match answer {
-        sets::SetAnswer::Accepted => FloeSetRead {
-            refused: 0,
-            at: 0,
-            set: found,
-        },
-        sets::SetAnswer::Refused { number, at } => FloeSetRead {
-            refused: number as u64,
-            at: at as u64,
-            set: found,
-        },
-    }
+    flat::set_read(sets::read_set(set))
 }
 
 #[no_mangle]
@@ -170,72 +61,21 @@ pub extern "C" fn floe_judge(set: &[u8], pattern: &[u8]) -> FloeVerdict
 pub extern "C" fn floe_compare(first: &[u8], second: &[u8]) -> FloeComparison
     ensures { λ r. ⌜ FlatAnswer (ComparedAs longest (now (first .entry)) (now (second .entry))) flatComparison r ⌝ }
 {
-    let compared = compare::compare(first, second);
-    let answer = compared.answer;
-    let length = compared.pattern.length as u64;
-    let pattern = compared.pattern.outcomes;
-    match answer {
-        compare::CompareAnswer::Covers => FloeComparison {
-            refused: 0,
-            at: 0,
-            which: 0,
-            covers: 1,
-            length,
-            pattern,
-        },
-        compare::CompareAnswer::Between => FloeComparison {
-            refused: 0,
-            at: 0,
-            which: 0,
-            covers: 0,
-            length,
-            pattern,
-        },
-        compare::CompareAnswer::Refused { which, number, at } => FloeComparison {
-            refused: number as u64,
-            at: at as u64,
-            which: which as u64,
-            covers: 0, // what wasn't compared isn't covered
-            length,
-            pattern,
-        },
-    }
+    flat::compared(compare::compare(first, second))
 }
 
 #[no_mangle]
 pub extern "C" fn floe_build(set: &[u8], work: &mut [u16], table: &mut [u8]) -> FloeBuilt
     ensures { λ r. ⌜ FlatAnswer (BuiltAs longest (now (set .entry)) (now (work .entry)) (now (work .exit)) (now (table .entry)) (now (table .exit))) flatBuilt r ⌝ }
 {
-    match builder::build(set, work, table) {
-        builder::BuildAnswer::Built(length) => FloeBuilt {
-            refused: 0,
-            at: 0,
-            length: length as u64,
-        },
-        builder::BuildAnswer::Refused { number, at } => FloeBuilt {
-            refused: number as u64,
-            at: at as u64,
-            length: 0,
-        },
-    }
+    flat::built(builder::build(set, work, table))
 }
 
 #[no_mangle]
 pub extern "C" fn floe_check_table(table: &[u8]) -> FloeChecked
     ensures { λ r. ⌜ FlatAnswer (CheckedAs (now (table .entry))) flatChecked r ⌝ }
 {
-    match table::check_table(table) {
-        table::TableAnswer::States(states) => FloeChecked {
-            refused: 0,
-            at: 0,
-            states: states as u64,
-        },
-        table::TableAnswer::Refused { number, at } => FloeChecked {
-            refused: number as u64,
-            at: at as u64,
-            states: 0,
-        },
-    }
+    flat::checked(table::check_table(table))
 }
 
 #[no_mangle]

@@ -3,12 +3,11 @@ ghost use Rattle.meaning.specs.Longest.{longest};
 ghost use Rattle.night_log.specs.Read.{OpenedAs, ReadAs};
 ghost use Rattle.night_log.specs.Write.{LogWrittenAs};
 ghost use Rattle.night_log.specs.Judge.{LogJudgedAs};
-ghost use Rattle.floelinnet.specs.Flat.{FlatAnswer, flatWritten, flatVerdict, flatOpened, flatLogRead};
-use super::FloeLogOpened;
-use super::FloeLogRead;
-use super::FloeVerdict;
-use super::FloeWritten;
-use super::flat;
+ghost use Rattle.flat.specs.Flat.{FlatAnswer, flatWritten, flatVerdict, flatOpened, flatLogRead};
+use flat::FloeLogOpened;
+use flat::FloeLogRead;
+use flat::FloeVerdict;
+use flat::FloeWritten;
 
 #[no_mangle]
 pub extern "C" fn floe_log_write(pattern: &[u8], log: &mut [u8]) -> FloeWritten

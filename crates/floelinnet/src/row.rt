@@ -1,9 +1,8 @@
 // The boundary's row: each function says in a flat record what the library function on the lent row answers.
 ghost use Rattle.guard.specs.Row.{RowStartedAs, RowAskedAs, RowToldAs};
-ghost use Rattle.floelinnet.specs.Flat.{FlatAnswer, flatStart, flatAsk, flatTell};
-use super::FloeDone;
-use super::FloeRowAsked;
-use super::flat;
+ghost use Rattle.flat.specs.Flat.{FlatAnswer, flatStart, flatAsk, flatTell};
+use flat::FloeDone;
+use flat::FloeRowAsked;
 use guard::Guard;
 
 #[no_mangle]

@@ -1,7 +1,7 @@
 -- `floelinnet::floe_guard_start`: the record holds what `flat::started` makes of the answer, and the guard. Assumes nothing.
 use mathlib.Core.Path.{ap}
 use borrow.Author.Needs.{needs}
-use Rattle.floelinnet.specs.declared.FloeStarted.{FloeStarted}
+use Rattle.flat.specs.declared.FloeStarted.{FloeStarted}
 use Rattle.floelinnet.proofs.floe_guard_start.Statement.{statement}
 use Rattle.floelinnet.proofs.floe_guard_start.Tie as tie
 

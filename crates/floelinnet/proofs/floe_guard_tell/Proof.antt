@@ -1,7 +1,7 @@
 -- `floelinnet::floe_guard_tell`: the record holds what `flat::told` makes of the answer, and the guard. Assumes nothing.
 use mathlib.Core.Path.{ap}
 use borrow.Author.Needs.{needs}
-use Rattle.floelinnet.specs.declared.FloeTold.{FloeTold}
+use Rattle.flat.specs.declared.FloeTold.{FloeTold}
 use Rattle.floelinnet.proofs.floe_guard_tell.Statement.{statement}
 use Rattle.floelinnet.proofs.floe_guard_tell.Tie as tie
 

@@ -1,7 +1,7 @@
 -- `floelinnet::carries::floe_carry_read`: the record holds what `flat::started` makes of the answer, and the guard. Assumes nothing.
 use mathlib.Core.Path.{ap}
 use borrow.Author.Needs.{needs}
-use Rattle.floelinnet.specs.declared.FloeStarted.{FloeStarted}
+use Rattle.flat.specs.declared.FloeStarted.{FloeStarted}
 use Rattle.floelinnet.proofs.carries.floe_carry_read.Statement.{statement}
 use Rattle.floelinnet.proofs.carries.floe_carry_read.Tie as tie
 

@@ -47,14 +47,14 @@ use Rattle.guard.proofs.row.ask as inner
 use Rattle.guard.proofs.row.ask.Symbol as inner-def
 use Rattle.guard.proofs.row.ask.Symbol.{name as #guard·row·ask}
 use Rattle.guard.proofs.row.ask.Met as inner-thm
-use Rattle.floelinnet.specs.declared.FloeRowAsked.{FloeRowAsked}
-use Rattle.floelinnet.specs.Flat.{flatAsk}
-use Rattle.floelinnet.proofs.FloeRowAsked as F
-use Rattle.floelinnet.proofs.FloeRowAsked.Laws as F′
-use Rattle.floelinnet.proofs.flat.asked as flat
-use Rattle.floelinnet.proofs.flat.asked.Symbol as flat-def
-use Rattle.floelinnet.proofs.flat.asked.Symbol.{name as #floelinnet·flat·asked}
-use Rattle.floelinnet.proofs.flat.asked.Met as flat-thm
+use Rattle.flat.specs.declared.FloeRowAsked.{FloeRowAsked}
+use Rattle.flat.specs.Flat.{flatAsk}
+use Rattle.flat.proofs.FloeRowAsked as F
+use Rattle.flat.proofs.FloeRowAsked.Laws as F′
+use Rattle.flat.proofs.asked as flat
+use Rattle.flat.proofs.asked.Symbol as flat-def
+use Rattle.flat.proofs.asked.Symbol.{name as #flat·asked}
+use Rattle.flat.proofs.asked.Met as flat-thm
 use Rattle.floelinnet.proofs.row.floe_row_ask.Key.{name as #floelinnet·row·floe-row-ask}
 use Rattle.floelinnet.proofs.row.floe_row_ask as ask
 use Rattle.floelinnet.proofs.row.floe_row_ask.Statement as stated
@@ -134,7 +134,7 @@ module _ {M : Type 1} (𝓤 : URA M) (H : Heap 𝓤) (A : Atoms 𝓤) (W : Given
   flat-says : (r : AskAnswer) (f : FloeRowAsked) → ent 𝓤 (ensured 𝓤 H A flat.ended (flat.clauses 𝓤 H A mem run) tt (r, tt) tt f) (fact 𝓤 (f ≡ flatAsk r))
   flat-says r f = exE 𝓤 _ (λ ws. snd∗ 𝓤 (sem 𝓤 H A (lasts flat.ended tt (r, tt) ws)) (fact 𝓤 (f ≡ flatAsk r)))
 
-  module _ (C : Calls 𝓤 H) (Λ : Loops 𝓤 H) (fm : FmC 𝓤 H (W .laws) C) (known-inner : Triple 𝓤 (C #guard·row·ask) (Inner 𝓤 H A mem run)) (known-flat : Triple 𝓤 (C #floelinnet·flat·asked) (Flat 𝓤 H A mem run)) where
+  module _ (C : Calls 𝓤 H) (Λ : Loops 𝓤 H) (fm : FmC 𝓤 H (W .laws) C) (known-inner : Triple 𝓤 (C #guard·row·ask) (Inner 𝓤 H A mem run)) (known-flat : Triple 𝓤 (C #flat·asked) (Flat 𝓤 H A mem run)) where
     walk : ent 𝓤 (onEntry 𝓤 H A ask.signature (κ, (κ′, tt)) (q, (q′, tt)) a vals) (WpFn 𝓤 H C Λ code.function (s ∷ vint w64 job ∷ t ∷ []) Post)
     walk =
         qed W (raw (onEntry 𝓤 H A ask.signature (κ, (κ′, tt)) (q, (q′, tt)) a vals) ∷ []) ∵ use1 W (raw (Inner 𝓤 H A mem run .pre to-inner) ⊛ (‵ Row ⊛ ‵ Table)) goes-inner $ split ! $
@@ -158,7 +158,7 @@ module _ {M : Type 1} (𝓤 : URA M) (H : Heap 𝓤) (A : Atoms 𝓤) (W : Given
         move ! (2 ∷ []) $ split ! $ keep ! (3 ∷ 0 ∷ 2 ∷ 1 ∷ []) $ by ! (exits r f w answer-is flat-is))))))))))))))
 
 ask-meets : {M : Type 1} (𝓤 : URA M) (H : Heap 𝓤) (A : Atoms 𝓤) → Given 𝓤 H A → (mem : Memory → SProp 𝓤) (run : Routine → Fun 𝓤) (𝓣 : Tables 𝓤 H)
-    → Triple 𝓤 (𝓣 .C #guard·row·ask) (Inner 𝓤 H A mem run) → Triple 𝓤 (𝓣 .C #floelinnet·flat·asked) (Flat 𝓤 H A mem run)
+    → Triple 𝓤 (𝓣 .C #guard·row·ask) (Inner 𝓤 H A mem run) → Triple 𝓤 (𝓣 .C #flat·asked) (Flat 𝓤 H A mem run)
     → Meets 𝓤 H A ask.signature (WpFn 𝓤 H (𝓣 .C) (𝓣 .Λ) code.function) (ask.spec 𝓤 H A mem run)
 ask-meets 𝓤 H A W mem run 𝓣 known-inner known-flat =
     walk-meets 𝓤 H A ask.ended stayed W
@@ -177,4 +177,4 @@ floe-row-ask-spec 𝓤 H 𝓜 𝓖 𝓡 =
     (tables 𝓤 H 𝓜 𝓡 code.env .C) (tables 𝓤 H 𝓜 𝓡 code.env .Λ) #floelinnet·row·floe-row-ask code.function (code.unfolded 𝓤 H 𝓜 𝓡)
     (ask-meets 𝓤 H (𝓖 .A) (givenOf 𝓤 H 𝓜 𝓖) (𝓜 .mem) (𝓡 .run) (tablesOf 𝓤 H 𝓜 (tables 𝓤 H 𝓜 𝓡 code.env))
     (cited 𝓤 H (Inner 𝓤 H (𝓖 .A) (𝓜 .mem) (𝓡 .run)) 𝓜 𝓡 code.env #guard·row·ask inner-def.routine code.calls-guard·row·ask (inner-thm.met 𝓤 H 𝓜 𝓖 𝓡))
-    (cited 𝓤 H (Flat 𝓤 H (𝓖 .A) (𝓜 .mem) (𝓡 .run)) 𝓜 𝓡 code.env #floelinnet·flat·asked flat-def.routine code.calls-floelinnet·flat·asked (flat-thm.met 𝓤 H 𝓜 𝓖 𝓡)))
+    (cited 𝓤 H (Flat 𝓤 H (𝓖 .A) (𝓜 .mem) (𝓡 .run)) 𝓜 𝓡 code.env #flat·asked flat-def.routine code.calls-flat·asked (flat-thm.met 𝓤 H 𝓜 𝓖 𝓡)))

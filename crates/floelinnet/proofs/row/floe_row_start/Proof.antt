@@ -48,14 +48,14 @@ use Rattle.guard.proofs.row.start as inner
 use Rattle.guard.proofs.row.start.Symbol as inner-def
 use Rattle.guard.proofs.row.start.Symbol.{name as #guard·row·start}
 use Rattle.guard.proofs.row.start.Met as inner-thm
-use Rattle.floelinnet.specs.declared.FloeDone.{FloeDone}
-use Rattle.floelinnet.specs.Flat.{flatStart}
-use Rattle.floelinnet.proofs.FloeDone as F
-use Rattle.floelinnet.proofs.FloeDone.Laws as F′
-use Rattle.floelinnet.proofs.flat.started as flat
-use Rattle.floelinnet.proofs.flat.started.Symbol as flat-def
-use Rattle.floelinnet.proofs.flat.started.Symbol.{name as #floelinnet·flat·started}
-use Rattle.floelinnet.proofs.flat.started.Met as flat-thm
+use Rattle.flat.specs.declared.FloeDone.{FloeDone}
+use Rattle.flat.specs.Flat.{flatStart}
+use Rattle.flat.proofs.FloeDone as F
+use Rattle.flat.proofs.FloeDone.Laws as F′
+use Rattle.flat.proofs.started as flat
+use Rattle.flat.proofs.started.Symbol as flat-def
+use Rattle.flat.proofs.started.Symbol.{name as #flat·started}
+use Rattle.flat.proofs.started.Met as flat-thm
 use Rattle.floelinnet.proofs.row.floe_row_start.Key.{name as #floelinnet·row·floe-row-start}
 use Rattle.floelinnet.proofs.row.floe_row_start as start
 use Rattle.floelinnet.proofs.row.floe_row_start.Statement as stated
@@ -128,7 +128,7 @@ module _ {M : Type 1} (𝓤 : URA M) (H : Heap 𝓤) (A : Atoms 𝓤) (W : Given
   flat-says : (r : StartAnswer) (f : FloeDone) → ent 𝓤 (ensured 𝓤 H A flat.ended (flat.clauses 𝓤 H A mem run) tt (r, tt) tt f) (fact 𝓤 (f ≡ flatStart r))
   flat-says r f = exE 𝓤 _ (λ ws. snd∗ 𝓤 (sem 𝓤 H A (lasts flat.ended tt (r, tt) ws)) (fact 𝓤 (f ≡ flatStart r)))
 
-  module _ (C : Calls 𝓤 H) (Λ : Loops 𝓤 H) (fm : FmC 𝓤 H (W .laws) C) (known-inner : Triple 𝓤 (C #guard·row·start) (Inner 𝓤 H A mem run)) (known-flat : Triple 𝓤 (C #floelinnet·flat·started) (Flat 𝓤 H A mem run)) where
+  module _ (C : Calls 𝓤 H) (Λ : Loops 𝓤 H) (fm : FmC 𝓤 H (W .laws) C) (known-inner : Triple 𝓤 (C #guard·row·start) (Inner 𝓤 H A mem run)) (known-flat : Triple 𝓤 (C #flat·started) (Flat 𝓤 H A mem run)) where
     walk : ent 𝓤 (onEntry 𝓤 H A start.signature (κ, (κ′, tt)) (q, (q′, tt)) a vals) (WpFn 𝓤 H C Λ code.function (s ∷ vint w64 job ∷ t ∷ []) Post)
     walk =
         qed W (raw (onEntry 𝓤 H A start.signature (κ, (κ′, tt)) (q, (q′, tt)) a vals) ∷ []) ∵ use1 W (raw (Inner 𝓤 H A mem run .pre to-inner) ⊛ ‵ Table) goes-inner $ split ! $
@@ -156,7 +156,7 @@ module _ {M : Type 1} (𝓤 : URA M) (H : Heap 𝓤) (A : Atoms 𝓤) (W : Given
         keep ! (1 ∷ 2 ∷ 0 ∷ 4 ∷ []) $ by ! (exits r f w (zs .0) row-is flat-is same))))))))))))))))))
 
 start-meets : {M : Type 1} (𝓤 : URA M) (H : Heap 𝓤) (A : Atoms 𝓤) → Given 𝓤 H A → (mem : Memory → SProp 𝓤) (run : Routine → Fun 𝓤) (𝓣 : Tables 𝓤 H)
-    → Triple 𝓤 (𝓣 .C #guard·row·start) (Inner 𝓤 H A mem run) → Triple 𝓤 (𝓣 .C #floelinnet·flat·started) (Flat 𝓤 H A mem run)
+    → Triple 𝓤 (𝓣 .C #guard·row·start) (Inner 𝓤 H A mem run) → Triple 𝓤 (𝓣 .C #flat·started) (Flat 𝓤 H A mem run)
     → Meets 𝓤 H A start.signature (WpFn 𝓤 H (𝓣 .C) (𝓣 .Λ) code.function) (start.spec 𝓤 H A mem run)
 start-meets 𝓤 H A W mem run 𝓣 known-inner known-flat =
     walk-meets 𝓤 H A start.ended stayed W
@@ -175,4 +175,4 @@ floe-row-start-spec 𝓤 H 𝓜 𝓖 𝓡 =
     (tables 𝓤 H 𝓜 𝓡 code.env .C) (tables 𝓤 H 𝓜 𝓡 code.env .Λ) #floelinnet·row·floe-row-start code.function (code.unfolded 𝓤 H 𝓜 𝓡)
     (start-meets 𝓤 H (𝓖 .A) (givenOf 𝓤 H 𝓜 𝓖) (𝓜 .mem) (𝓡 .run) (tablesOf 𝓤 H 𝓜 (tables 𝓤 H 𝓜 𝓡 code.env))
     (cited 𝓤 H (Inner 𝓤 H (𝓖 .A) (𝓜 .mem) (𝓡 .run)) 𝓜 𝓡 code.env #guard·row·start inner-def.routine code.calls-guard·row·start (inner-thm.met 𝓤 H 𝓜 𝓖 𝓡))
-    (cited 𝓤 H (Flat 𝓤 H (𝓖 .A) (𝓜 .mem) (𝓡 .run)) 𝓜 𝓡 code.env #floelinnet·flat·started flat-def.routine code.calls-floelinnet·flat·started (flat-thm.met 𝓤 H 𝓜 𝓖 𝓡)))
+    (cited 𝓤 H (Flat 𝓤 H (𝓖 .A) (𝓜 .mem) (𝓡 .run)) 𝓜 𝓡 code.env #flat·started flat-def.routine code.calls-flat·started (flat-thm.met 𝓤 H 𝓜 𝓖 𝓡)))

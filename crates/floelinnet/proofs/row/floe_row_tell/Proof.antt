@@ -48,14 +48,14 @@ use Rattle.guard.proofs.row.tell as inner
 use Rattle.guard.proofs.row.tell.Symbol as inner-def
 use Rattle.guard.proofs.row.tell.Symbol.{name as #guard·row·tell}
 use Rattle.guard.proofs.row.tell.Met as inner-thm
-use Rattle.floelinnet.specs.declared.FloeDone.{FloeDone}
-use Rattle.floelinnet.specs.Flat.{flatTell}
-use Rattle.floelinnet.proofs.FloeDone as F
-use Rattle.floelinnet.proofs.FloeDone.Laws as F′
-use Rattle.floelinnet.proofs.flat.told as flat
-use Rattle.floelinnet.proofs.flat.told.Symbol as flat-def
-use Rattle.floelinnet.proofs.flat.told.Symbol.{name as #floelinnet·flat·told}
-use Rattle.floelinnet.proofs.flat.told.Met as flat-thm
+use Rattle.flat.specs.declared.FloeDone.{FloeDone}
+use Rattle.flat.specs.Flat.{flatTell}
+use Rattle.flat.proofs.FloeDone as F
+use Rattle.flat.proofs.FloeDone.Laws as F′
+use Rattle.flat.proofs.told as flat
+use Rattle.flat.proofs.told.Symbol as flat-def
+use Rattle.flat.proofs.told.Symbol.{name as #flat·told}
+use Rattle.flat.proofs.told.Met as flat-thm
 use Rattle.floelinnet.proofs.row.floe_row_tell.Key.{name as #floelinnet·row·floe-row-tell}
 use Rattle.floelinnet.proofs.row.floe_row_tell as tell
 use Rattle.floelinnet.proofs.row.floe_row_tell.Statement as stated
@@ -128,7 +128,7 @@ module _ {M : Type 1} (𝓤 : URA M) (H : Heap 𝓤) (A : Atoms 𝓤) (W : Given
   flat-says : (r : TellAnswer) (f : FloeDone) → ent 𝓤 (ensured 𝓤 H A flat.ended (flat.clauses 𝓤 H A mem run) tt (r, tt) tt f) (fact 𝓤 (f ≡ flatTell r))
   flat-says r f = exE 𝓤 _ (λ ws. snd∗ 𝓤 (sem 𝓤 H A (lasts flat.ended tt (r, tt) ws)) (fact 𝓤 (f ≡ flatTell r)))
 
-  module _ (C : Calls 𝓤 H) (Λ : Loops 𝓤 H) (fm : FmC 𝓤 H (W .laws) C) (known-inner : Triple 𝓤 (C #guard·row·tell) (Inner 𝓤 H A mem run)) (known-flat : Triple 𝓤 (C #floelinnet·flat·told) (Flat 𝓤 H A mem run)) where
+  module _ (C : Calls 𝓤 H) (Λ : Loops 𝓤 H) (fm : FmC 𝓤 H (W .laws) C) (known-inner : Triple 𝓤 (C #guard·row·tell) (Inner 𝓤 H A mem run)) (known-flat : Triple 𝓤 (C #flat·told) (Flat 𝓤 H A mem run)) where
     walk : ent 𝓤 (onEntry 𝓤 H A tell.signature (κ, (κ′, tt)) (q, (q′, tt)) a vals) (WpFn 𝓤 H C Λ code.function (s ∷ vint w64 job ∷ t ∷ vint w8 byte ∷ []) Post)
     walk =
         qed W (raw (onEntry 𝓤 H A tell.signature (κ, (κ′, tt)) (q, (q′, tt)) a vals) ∷ []) ∵ use1 W (raw (Inner 𝓤 H A mem run .pre to-inner) ⊛ ‵ Table) goes-inner $ split ! $
@@ -156,7 +156,7 @@ module _ {M : Type 1} (𝓤 : URA M) (H : Heap 𝓤) (A : Atoms 𝓤) (W : Given
         keep ! (1 ∷ 2 ∷ 0 ∷ 4 ∷ []) $ by ! (exits r f w (zs .0) row-is flat-is same)))))))))))))))))))
 
 tell-meets : {M : Type 1} (𝓤 : URA M) (H : Heap 𝓤) (A : Atoms 𝓤) → Given 𝓤 H A → (mem : Memory → SProp 𝓤) (run : Routine → Fun 𝓤) (𝓣 : Tables 𝓤 H)
-    → Triple 𝓤 (𝓣 .C #guard·row·tell) (Inner 𝓤 H A mem run) → Triple 𝓤 (𝓣 .C #floelinnet·flat·told) (Flat 𝓤 H A mem run)
+    → Triple 𝓤 (𝓣 .C #guard·row·tell) (Inner 𝓤 H A mem run) → Triple 𝓤 (𝓣 .C #flat·told) (Flat 𝓤 H A mem run)
     → Meets 𝓤 H A tell.signature (WpFn 𝓤 H (𝓣 .C) (𝓣 .Λ) code.function) (tell.spec 𝓤 H A mem run)
 tell-meets 𝓤 H A W mem run 𝓣 known-inner known-flat =
     walk-meets 𝓤 H A tell.ended stayed W
@@ -175,4 +175,4 @@ floe-row-tell-spec 𝓤 H 𝓜 𝓖 𝓡 =
     (tables 𝓤 H 𝓜 𝓡 code.env .C) (tables 𝓤 H 𝓜 𝓡 code.env .Λ) #floelinnet·row·floe-row-tell code.function (code.unfolded 𝓤 H 𝓜 𝓡)
     (tell-meets 𝓤 H (𝓖 .A) (givenOf 𝓤 H 𝓜 𝓖) (𝓜 .mem) (𝓡 .run) (tablesOf 𝓤 H 𝓜 (tables 𝓤 H 𝓜 𝓡 code.env))
     (cited 𝓤 H (Inner 𝓤 H (𝓖 .A) (𝓜 .mem) (𝓡 .run)) 𝓜 𝓡 code.env #guard·row·tell inner-def.routine code.calls-guard·row·tell (inner-thm.met 𝓤 H 𝓜 𝓖 𝓡))
-    (cited 𝓤 H (Flat 𝓤 H (𝓖 .A) (𝓜 .mem) (𝓡 .run)) 𝓜 𝓡 code.env #floelinnet·flat·told flat-def.routine code.calls-floelinnet·flat·told (flat-thm.met 𝓤 H 𝓜 𝓖 𝓡)))
+    (cited 𝓤 H (Flat 𝓤 H (𝓖 .A) (𝓜 .mem) (𝓡 .run)) 𝓜 𝓡 code.env #flat·told flat-def.routine code.calls-flat·told (flat-thm.met 𝓤 H 𝓜 𝓖 𝓡)))
