@@ -28,17 +28,17 @@ use Rattle.printing.proofs.Texts.{text-of-one-table}
 no-machine : Machine
 no-machine = record { states = 0; start = 0; next = λ s o. none }
 
-module _ (input work table out out′ : List ℕ) (r : ℕ) where
-  pub printed-long : mostInput < length input → Holds (refusalText 1 0) out out′ r → PrintedAs longest input work work table table out out′ r
+module _ (widest : ℕ) (input work table out out′ : List ℕ) (r : ℕ) where
+  pub printed-long : mostInput < length input → Holds (refusalText 1 0) out out′ r → PrintedAs widest input work work table table out out′ r
   printed-long h p =
       let size = sizeOf (no-machine .states) in
-      let e : printEarly longest input work ≡ refused 1 0 = first-here 1 0 _ (earlyRows longest input work) (lt-ltb mostInput (length input) h) in
-      let f : printTests longest input work table no-machine ≡ refused 1 0 = first-here 1 0 _ (buildRows longest input work table size) (lt-ltb mostInput (length input) h) in
+      let e : printEarly widest input work ≡ refused 1 0 = first-here 1 0 _ (earlyRows widest input work) (lt-ltb mostInput (length input) h) in
+      let f : printTests widest input work table no-machine ≡ refused 1 0 = first-here 1 0 _ (buildRows widest input work table size) (lt-ltb mostInput (length input) h) in
       let x = sym (ap (λ z. textWhen z no-machine) f) in (
         no-machine,
         record {
           canonical = λ q. absurd (passed-not-refused (sym q ∙ e));
-          work-after = subst (λ z. WorkAfter z work work) (sym e) refl;
+          work-after = subst (λ z. WorkAfter widest z work work) (sym e) refl;
           table-after = sym (ap (λ z. tableWhen z no-machine table) f);
           returned = p .place ∙ ap (λ z. held z out) x;
           out-after = p .bytes ∙ ap (λ z. cut z out) x;
@@ -50,40 +50,40 @@ module _ (input work table out out′ : List ℕ) (r : ℕ) where
     same-tests : (rows : List Row) → first (inputRow input ∷ rows) ≡ first rows
     same-tests rows = first-skip 1 0 (ltb mostInput (length input)) rows (le-ltb mostInput (length input) short)
 
-    printed-by : (a : BuildAnswer) (m : Machine) → BuiltWith longest input work work′ table table′ a m → (text : List ℕ) → text ≡ textWhen (says a) m → Holds text out out′ r
-        → PrintedAs longest input work work′ table table′ out out′ r
+    printed-by : (a : BuildAnswer) (m : Machine) → BuiltWith widest input work work′ table table′ a m → (text : List ℕ) → text ≡ textWhen (says a) m → Holds text out out′ r
+        → PrintedAs widest input work work′ table table′ out out′ r
     printed-by a m b text e p =
-        let s = same-tests (earlyRows longest input work) in
-        let t = same-tests (buildRows longest input work table (sizeOf (m .states))) in
-        let x : text ≡ textFor longest input work table m = e ∙ sym (ap (λ z. textWhen z m) (t ∙ sym (b .answer))) in (
+        let s = same-tests (earlyRows widest input work) in
+        let t = same-tests (buildRows widest input work table (sizeOf (m .states))) in
+        let x : text ≡ textFor widest input work table m = e ∙ sym (ap (λ z. textWhen z m) (t ∙ sym (b .answer))) in (
           m,
           record {
             canonical = λ q. b .canonical (sym s ∙ q);
-            work-after = subst (λ z. WorkAfter z work work′) (sym s) (b .work-after);
+            work-after = subst (λ z. WorkAfter widest z work work′) (sym s) (b .work-after);
             table-after = b .table-after ∙ sym (ap (λ z. tableWhen z m table) t);
             returned = p .place ∙ ap (λ z. held z out) x;
             out-after = p .bytes ∙ ap (λ z. cut z out) x;
           },
         )
 
-    pub printed-refused : {a : BuildAnswer} {number at : ℕ} → a ≡ Refused number at → BuiltAs longest input work work′ table table′ a → Holds (refusalText number at) out out′ r
-        → PrintedAs longest input work work′ table table′ out out′ r
+    pub printed-refused : {a : BuildAnswer} {number at : ℕ} → a ≡ Refused number at → BuiltAs widest input work work′ table table′ a → Holds (refusalText number at) out out′ r
+        → PrintedAs widest input work work′ table table′ out out′ r
     printed-refused {a} {number} {at} e (m, b) p = printed-by a m b _ (sym (ap (λ z. textWhen (says z) m) e)) p
 
-    pub printed-built : {a : BuildAnswer} {size : ℕ} → a ≡ Built size → BuiltAs longest input work work′ table table′ a
+    pub printed-built : widest ≤ longest → {a : BuildAnswer} {size : ℕ} → a ≡ Built size → BuiltAs widest input work work′ table table′ a
         → Holds (textWhen (first (tableRows (take size table′))) (machineOf (take size table′))) out out′ r
-        → PrintedAs longest input work work′ table table′ out out′ r
-    printed-built {a} {size} e c p =
-        let b = subst (λ z. BuiltAs longest input work work′ table table′ z) e c in
+        → PrintedAs widest input work work′ table table′ out out′ r
+    printed-built within {a} {size} e c p =
+        let b = subst (λ z. BuiltAs widest input work work′ table table′ z) e c in
         printed-by (Built size) (b .0) (b .1) _
-        (ap (λ z. textWhen z (machineOf (take size table′))) (built-checked input work work′ table table′ size b)
-        ∙ text-of-one-table (machineOf (take size table′)) (b .0) (built-one-table input work work′ table table′ size b)) p
+        (ap (λ z. textWhen z (machineOf (take size table′))) (built-checked widest input work work′ table table′ size b within)
+        ∙ text-of-one-table (machineOf (take size table′)) (b .0) (built-one-table widest input work work′ table table′ size b within)) p
 
 -- the table that was built lies in its buffer
-pub built-room : (input work work′ table table′ : List ℕ) {a : BuildAnswer} {size : ℕ} → a ≡ Built size → BuiltAs longest input work work′ table table′ a → size ≤ length table′
-built-room input work work′ table table′ {a} {size} e c =
-    let b = subst (λ z. BuiltAs longest input work work′ table table′ z) e c in
+pub built-room : (widest : ℕ) (input work work′ table table′ : List ℕ) {a : BuildAnswer} {size : ℕ} → a ≡ Built size → BuiltAs widest input work work′ table table′ a → size ≤ length table′
+built-room widest input work work′ table table′ {a} {size} e c =
+    let b = subst (λ z. BuiltAs widest input work work′ table table′ z) e c in
     let m = b .0 in
     let s : size ≡ sizeOf (m .states) = b .1 .returned ∙ ap (λ z. lengthWhen z (sizeOf (m .states))) (sym (b .1 .answer)) in
-    let l = ap length (built-bytes input work work′ table table′ size b) ∙ bytes-length m in
+    let l = ap length (built-bytes widest input work work′ table table′ size b) ∙ bytes-length m in
     omega (arith, length-take size table′)

@@ -8,16 +8,15 @@ use borrow.Author.Tests.{le-ltb}
 use lib.ListN.{length}
 use Rattle.layout.specs.Refusal.{Row, row, Tested, passed, refused, first}
 use Rattle.layout.proofs.Rows.{and-then, first-skip, first-append}
-use Rattle.meaning.specs.Longest.{longest}
 use Rattle.sets.specs.Rows.{setRows}
 use Rattle.table.specs.Bytes.{sizeOf}
-use Rattle.table.specs.Rows.{mostStates}
 use Rattle.classes.specs.Area.{areaSize}
 use Rattle.builder.specs.Build.{earlyRows}
+use Rattle.printing.specs.Longest.{printedLongest, printedStates}
 use Rattle.printing.specs.Text.{textWhen}
 use Rattle.printing.specs.Print.{longestText, inputRow, printEarly, printTests, PrintedAs, inputTests, PrintedWhole}
 use Rattle.printing.proofs.OneResult.{tests-by-early}
-use Rattle.printing.proofs.Whole.{early-writable, whole-text}
+use Rattle.printing.proofs.Whole.{early-few, whole-text}
 
 -- a last row that doesn't hold
 last-skipped : (rows : List Row) (n v : ℕ) (h : Bool) → h ≡ false → first (rows ++ row n h v ∷ []) ≡ first rows
@@ -28,18 +27,18 @@ last-skipped rows n v h e = first-append rows (row n h v ∷ []) ∙ go (first r
     go passed = first-skip n v h [] e
     go (refused k u) = refl
 
-module _ (input work work′ table table′ out out′ : List ℕ) (r : ℕ) (area : length work ≡ areaSize) (buffer : length table ≡ sizeOf mostStates) where
-  no-8 : printEarly longest input work ≡ inputTests longest input
-  no-8 = last-skipped (inputRow input ∷ setRows longest input) 8 0 _ (le-ltb (length work) areaSize (omega arith))
+module _ (input work work′ table table′ out out′ : List ℕ) (r : ℕ) (area : length work ≡ areaSize printedLongest) (buffer : length table ≡ sizeOf printedStates) where
+  no-8 : printEarly printedLongest input work ≡ inputTests printedLongest input
+  no-8 = last-skipped (inputRow input ∷ setRows printedLongest input) 8 0 _ (le-ltb (length work) (areaSize printedLongest) (omega arith))
 
-  pub printed-whole : longestText ≤ length out → PrintedAs longest input work work′ table table′ out out′ r → PrintedWhole longest input work work′ table table′ out out′ r
+  pub printed-whole : longestText ≤ length out → PrintedAs printedLongest input work work′ table table′ out out′ r → PrintedWhole printedLongest input work work′ table table′ out out′ r
   printed-whole h (m, p) = record {
     printed = (m, p);
-    whole = (m, (λ e. p .canonical (no-8 ∙ e), whole-text input work work′ table table′ out out′ r m p h .1 ∙ ap (λ z. textWhen z m) (no-9 (printEarly longest input work) refl ∙ no-8)));
+    whole = (m, (λ e. p .canonical (no-8 ∙ e), whole-text input work work′ table table′ out out′ r m p h .1 ∙ ap (λ z. textWhen z m) (no-9 (printEarly printedLongest input work) refl ∙ no-8)));
   }
     where
-      no-9 : (t : Tested) → printEarly longest input work ≡ t → printTests longest input work table m ≡ printEarly longest input work
+      no-9 : (t : Tested) → printEarly printedLongest input work ≡ t → printTests printedLongest input work table m ≡ printEarly printedLongest input work
       no-9 passed e =
-          let most = early-writable input work work′ table table′ out out′ r m p e .most in
-          last-skipped (inputRow input ∷ earlyRows longest input work) 9 _ _ (le-ltb (length table) (sizeOf (m .states)) (omega arith))
-      no-9 (refused number at) e = tests-by-early longest input work table e m ∙ sym e
+          let few = early-few input work work′ table table′ out out′ r m p e in
+          last-skipped (inputRow input ∷ earlyRows printedLongest input work) 9 _ _ (le-ltb (length table) (sizeOf (m .states)) (omega arith))
+      no-9 (refused number at) e = tests-by-early printedLongest input work table e m ∙ sym e

@@ -80,7 +80,7 @@ module _ (widest : ℕ) (input work table : List ℕ) where
               canonical = λ q. p .canonical e;
               answer = says-by (printTests widest input work table m) (sizeOf (m .states)) ∙ t;
               returned = length-by (printTests widest input work table m) (sizeOf (m .states)) ∙ ap (λ z. lengthWhen z (sizeOf (m .states))) t;
-              work-after = subst (λ z. WorkAfter z work work′) s (p .work-after);
+              work-after = subst (λ z. WorkAfter widest z work work′) s (p .work-after);
               table-after = p .table-after ∙ ap (λ z. tableWhen z m table) t;
             },
           )
@@ -88,7 +88,7 @@ module _ (widest : ℕ) (input work table : List ℕ) where
     module _ (a b c d x y : List ℕ) (r t : ℕ) (m n : Machine) (f : PrintedWith widest input work a table c out x r m) (g : PrintedWith widest input work b table d out y t n) where
       lent-once : (e : Tested) → printEarly widest input work ≡ e → (a ≡ b) × (c ≡ d)
       lent-once (refused number at) e =
-          let w : (z : List ℕ) → WorkAfter (printEarly widest input work) work z → z ≡ work = λ z h. subst (λ v. WorkAfter v work z) e h in
+          let w : (z : List ℕ) → WorkAfter widest (printEarly widest input work) work z → z ≡ work = λ z h. subst (λ v. WorkAfter widest v work z) e h in
           let k : (q : Machine) → tableWhen (printTests widest input work table q) q table ≡ table = λ q. ap (λ z. tableWhen z q table) (tests-by-early e q) in
           (w a (f .work-after) ∙ sym (w b (g .work-after)), f .table-after ∙ k m ∙ sym (g .table-after ∙ k n))
       lent-once passed e = let (u, p, q) = built-one-result widest input work table a b c d _ _ (built-of e f) (built-of e g) in (p, q)

@@ -10,38 +10,38 @@ use Rattle.layout.specs.Write.{roomRow}
 use Rattle.layout.proofs.Rows.{Numbers, from-to, first-number}
 use Rattle.machines.specs.Machine.{Machine}
 use Rattle.machines.specs.Canonical.{Canonical}
-use Rattle.meaning.specs.Longest.{longest}
 use Rattle.meaning.specs.Sets.{KeptBy}
 use Rattle.sets.specs.Bytes.{setOf}
 use Rattle.table.specs.Bytes.{sizeOf}
 use Rattle.builder.specs.Build.{earlyRows, buildRows, Cleared, tableWhen}
 use Rattle.builder.proofs.Numbers.{early-numbers, room-numbers, work-by-number}
+use Rattle.printing.specs.Longest.{printedLongest}
 use Rattle.printing.specs.Text.{refusalText}
 use Rattle.printing.specs.Print.{longestText, inputRow, printEarly, printTests, PrintedAs}
 use Rattle.printing.proofs.OneResult.{tests-once}
 use Rattle.printing.proofs.ReadBack.{text-refuses}
 use Rattle.printing.proofs.Whole.{whole-text}
 
-early-numbered : (input work : List ℕ) → Numbers (from-to 1 8) (inputRow input ∷ earlyRows longest input work)
-early-numbered input work = ((omega arith, omega arith), early-numbers longest input work)
+early-numbered : (input work : List ℕ) → Numbers (from-to 1 8) (inputRow input ∷ earlyRows printedLongest input work)
+early-numbered input work = ((omega arith, omega arith), early-numbers printedLongest input work)
 
-module _ (input work work′ table table′ out out′ : List ℕ) (r : ℕ) (printed : PrintedAs longest input work work′ table table′ out out′ r) (room : longestText ≤ length out) where
+module _ (input work work′ table table′ out out′ : List ℕ) (r : ℕ) (printed : PrintedAs printedLongest input work work′ table table′ out out′ r) (room : longestText ≤ length out) where
   -- for any machine that is the canonical one of the set where the tests get past 8
-  pub print-refuses : (m : Machine) → (printEarly longest input work ≡ passed → Canonical m (KeptBy (setOf input))) → (n v : ℕ)
-      → (take r out′ ≡ refusalText n v) ↔ (first (inputRow input ∷ buildRows longest input work table (sizeOf (m .states))) ≡ refused n v)
+  pub print-refuses : (m : Machine) → (printEarly printedLongest input work ≡ passed → Canonical m (KeptBy (setOf input))) → (n v : ℕ)
+      → (take r out′ ≡ refusalText n v) ↔ (first (inputRow input ∷ buildRows printedLongest input work table (sizeOf (m .states))) ≡ refused n v)
   print-refuses m canonical n v =
       let (k, p) = printed in
-      let same : printTests longest input work table m ≡ printTests longest input work table k = tests-once longest input work table m k canonical (p .canonical) in
+      let same : printTests printedLongest input work table m ≡ printTests printedLongest input work table k = tests-once printedLongest input work table m k canonical (p .canonical) in
       let text = whole-text input work work′ table table′ out out′ r k p room .1 in
-      let (to, from) = text-refuses (printTests longest input work table k) k n v in
+      let (to, from) = text-refuses (printTests printedLongest input work table k) k n v in
       (λ e. same ∙ to (sym text ∙ e), λ e. text ∙ from (sym same ∙ e))
 
   module _ (n v : ℕ) (line : take r out′ ≡ refusalText n v) where
-    rows-refused : printTests longest input work table (printed .0) ≡ refused n v
+    rows-refused : printTests printedLongest input work table (printed .0) ≡ refused n v
     rows-refused = print-refuses (printed .0) (printed .1 .canonical) n v .0 line
 
     abbrev early : List Row
-    early = inputRow input ∷ earlyRows longest input work
+    early = inputRow input ∷ earlyRows printedLongest input work
 
     abbrev late : List Row
     late = roomRow table (sizeOf (printed .0 .states)) ∷ []
@@ -52,5 +52,5 @@ module _ (input work work′ table table′ out out′ : List ℕ) (r : ℕ) (pr
     pub refused-print-leaves-table : table′ ≡ table
     refused-print-leaves-table = printed .1 .table-after ∙ ap (λ z. tableWhen z (printed .0) table) rows-refused
 
-    pub refused-print-leaves-work : (n ≤ 8 → work′ ≡ work) × (n ≡ 9 → Cleared work work′)
-    refused-print-leaves-work = work-by-number early table (sizeOf (printed .0 .states)) (early-numbered input work) work work′ n v rows-refused (printed .1 .work-after)
+    pub refused-print-leaves-work : (n ≤ 8 → work′ ≡ work) × (n ≡ 9 → Cleared printedLongest work work′)
+    refused-print-leaves-work = work-by-number early table (sizeOf (printed .0 .states)) (early-numbered input work) printedLongest work work′ n v rows-refused (printed .1 .work-after)

@@ -13,16 +13,15 @@ use lib.Seq.{take-all, take-at}
 use Rattle.layout.specs.Refusal.{Row, Tested, passed, refused, first}
 use Rattle.layout.specs.Write.{roomRow}
 use Rattle.layout.proofs.Rows.{and-then, first-append, passed-first, both-passed}
-use Rattle.machines.specs.Machine.{Machine}
+use Rattle.machines.specs.Machine.{Machine, WellMade}
 use Rattle.meaning.specs.declared.LimitSet.{LimitSet}
-use Rattle.meaning.specs.Longest.{longest}
 use Rattle.sets.specs.Bytes.{countOf, setOf}
 use Rattle.sets.specs.Rows.{limitsRows, headRows, setRows}
 use Rattle.sets.proofs.Accepted.{passed-head, accepted-allowed}
 use Rattle.table.specs.Bytes.{sizeOf}
-use Rattle.table.specs.Writable.{Writable}
 use Rattle.builder.specs.Build.{areaRow, earlyRows}
-use Rattle.builder.proofs.BuiltTables.{canonical-writable}
+use Rattle.builder.proofs.BuiltTables.{no-more-states}
+use Rattle.printing.specs.Longest.{printedLongest, printedStates}
 use Rattle.printing.specs.Text.{digit, decimalIn, decimal, moveText, stateLine, stateLines, tableText, refusalText, textWhen}
 use Rattle.printing.specs.Print.{longestText, inputRow, printEarly, printTests, textFor, PrintedWith}
 use Rattle.printing.proofs.Digits.{one-digit, more-digits}
@@ -42,17 +41,17 @@ few-digits (suc k) (suc turns) n h =
 four-digits : (n : ℕ) → n < 10000 → length (decimal n) ≤ 4
 four-digits n h = few-digits 3 n n h
 
-module _ (m : Machine) (w : Writable m) where
+module _ (m : Machine) (made : WellMade m) (few : m .states ≤ printedStates) where
   move-fits : (s : ℕ) (o : Bool) → s < m .states → length (moveText (m .next s o)) ≤ 4
   move-fits s o h = go (m .next s o) refl
     where
       go : (t : Option ℕ) → m .next s o ≡ t → length (moveText t) ≤ 4
       go none e = omega arith
-      go (some t) e = four-digits t (omega (arith, w .most, w .well-made .next-below s t o h e))
+      go (some t) e = four-digits t (omega (arith, made .next-below s t o h e))
 
   line-fits : (s : ℕ) → s < m .states → length (stateLine m s) ≤ 15
   line-fits s h =
-      let a = four-digits s (omega (arith, w .most)) in
+      let a = four-digits s (omega arith) in
       let b = move-fits s false h in
       let c = move-fits s true h in
       simp length-append (omega arith)
@@ -67,9 +66,8 @@ module _ (m : Machine) (w : Writable m) where
 
   table-fits : length (tableText m) ≤ longestText
   table-fits =
-      let a = four-digits (m .states) (omega (arith, w .most)) in
+      let a = four-digits (m .states) (omega arith) in
       let b = lines-fit 0 (m .states) (omega arith) in
-      let c = w .most in
       simp length-append (omega arith)
 
 refusal-fits : (number at : ℕ) → number < 10000 → at < 10000 → length (refusalText number at) ≤ longestText
@@ -104,48 +102,48 @@ small-then rows later a b = subst (λ z. Small z) (sym (first-append rows later)
     go passed e i = b e
     go (refused number at) e i = i
 
-small-limits : (s : LimitSet) (i n : ℕ) → i + n ≤ 8 → SmallRows (limitsRows longest s i n)
+small-limits : (s : LimitSet) (i n : ℕ) → i + n ≤ 8 → SmallRows (limitsRows printedLongest s i n)
 unfolding limitsRows
 small-limits s i zero h = tt
 small-limits s i (suc n) h = (omega arith, omega arith, (omega arith, omega arith, (omega arith, omega arith, small-limits s (suc i) n (omega arith))))
 
-small-set : (b : List ℕ) → Small (first (setRows longest b))
+small-set : (b : List ℕ) → Small (first (setRows printedLongest b))
 small-set b =
-    small-then (headRows b) (limitsRows longest (setOf b) 0 (countOf b))
+    small-then (headRows b) (limitsRows printedLongest (setOf b) 0 (countOf b))
     (small-first (headRows b) (omega arith, omega arith, (omega arith, omega arith, (omega arith, omega arith, (omega arith, omega arith, tt)))))
     (λ e. small-first _ (small-limits (setOf b) 0 (countOf b) (omega (arith, passed-head b e .eight))))
 
-module _ (input work work′ table table′ out out′ : List ℕ) (r : ℕ) (m : Machine) (p : PrintedWith longest input work work′ table table′ out out′ r m) where
-  pub early-writable : printEarly longest input work ≡ passed → Writable m
-  early-writable e =
-      let s = both-passed (setRows longest input) (areaRow work ∷ []) (passed-first (inputRow input) (earlyRows longest input work) e .1) .0 in
-      canonical-writable (setOf input) (accepted-allowed longest input s) m (p .canonical e)
+module _ (input work work′ table table′ out out′ : List ℕ) (r : ℕ) (m : Machine) (p : PrintedWith printedLongest input work work′ table table′ out out′ r m) where
+  pub early-few : printEarly printedLongest input work ≡ passed → m .states ≤ printedStates
+  early-few e =
+      let s = both-passed (setRows printedLongest input) (areaRow printedLongest work ∷ []) (passed-first (inputRow input) (earlyRows printedLongest input work) e .1) .0 in
+      no-more-states printedLongest (setOf input) (accepted-allowed printedLongest input s) m (p .canonical e)
 
-  small-early : Small (printEarly longest input work)
+  small-early : Small (printEarly printedLongest input work)
   small-early =
-      small-then (inputRow input ∷ []) (earlyRows longest input work)
+      small-then (inputRow input ∷ []) (earlyRows printedLongest input work)
       (small-first (inputRow input ∷ []) (omega arith, omega arith, tt))
-      (λ e. small-then (setRows longest input) (areaRow work ∷ []) (small-set input) (λ f. small-first (areaRow work ∷ []) (omega arith, omega arith, tt)))
+      (λ e. small-then (setRows printedLongest input) (areaRow printedLongest work ∷ []) (small-set input) (λ f. small-first (areaRow printedLongest work ∷ []) (omega arith, omega arith, tt)))
 
-  small-tests : Small (printTests longest input work table m)
+  small-tests : Small (printTests printedLongest input work table m)
   small-tests =
-      small-then (inputRow input ∷ earlyRows longest input work) (roomRow table (sizeOf (m .states)) ∷ []) small-early
-      (λ e. small-first (roomRow table (sizeOf (m .states)) ∷ []) (omega arith, omega (arith, early-writable e .most), tt))
+      small-then (inputRow input ∷ earlyRows printedLongest input work) (roomRow table (sizeOf (m .states)) ∷ []) small-early
+      (λ e. small-first (roomRow table (sizeOf (m .states)) ∷ []) (omega arith, omega (arith, early-few e), tt))
 
-  early-passed : printTests longest input work table m ≡ passed → printEarly longest input work ≡ passed
-  early-passed e = both-passed (inputRow input ∷ earlyRows longest input work) (roomRow table (sizeOf (m .states)) ∷ []) e .0
+  early-passed : printTests printedLongest input work table m ≡ passed → printEarly printedLongest input work ≡ passed
+  early-passed e = both-passed (inputRow input ∷ earlyRows printedLongest input work) (roomRow table (sizeOf (m .states)) ∷ []) e .0
 
-  pub text-fits : length (textFor longest input work table m) ≤ longestText
-  text-fits = go (printTests longest input work table m) refl small-tests
+  pub text-fits : length (textFor printedLongest input work table m) ≤ longestText
+  text-fits = go (printTests printedLongest input work table m) refl small-tests
     where
-      go : (t : Tested) → printTests longest input work table m ≡ t → Small t → length (textWhen t m) ≤ longestText
-      go passed e s = table-fits m (early-writable (early-passed e))
+      go : (t : Tested) → printTests printedLongest input work table m ≡ t → Small t → length (textWhen t m) ≤ longestText
+      go passed e s = let f = early-passed e in table-fits m (p .canonical f .well-made) (early-few f)
       go (refused number at) e (a, b) = refusal-fits number at a b
 
   -- nothing is cut off
-  pub whole-text : longestText ≤ length out → (r ≡ length (textFor longest input work table m)) × (take r out′ ≡ textFor longest input work table m)
+  pub whole-text : longestText ≤ length out → (r ≡ length (textFor printedLongest input work table m)) × (take r out′ ≡ textFor printedLongest input work table m)
   whole-text h =
-      let text = textFor longest input work table m in
+      let text = textFor printedLongest input work table m in
       let l : length text ≤ length out = omega (arith, text-fits) in
       let e : r ≡ length text = omega (arith, p .returned) in
       (e, ap₂ take e (p .out-after ∙ ap (λ z. z ++ drop (length text) out) (take-all (length out) text l)) ∙ take-at text (drop (length text) out) (length text) refl)

@@ -1,3 +1,4 @@
 pub mod Text
 pub mod Cut
+pub mod Longest
 pub mod Print

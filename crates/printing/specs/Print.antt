@@ -12,9 +12,9 @@ use Rattle.meaning.specs.Sets.{KeptBy}
 use Rattle.sets.specs.Bytes.{setOf}
 use Rattle.sets.specs.Rows.{setRows}
 use Rattle.table.specs.Bytes.{sizeOf}
-use Rattle.table.specs.Rows.{mostStates}
 use Rattle.classes.specs.Area.{areaSize}
 use Rattle.builder.specs.Build.{earlyRows, buildRows, WorkAfter, tableWhen}
+use Rattle.printing.specs.Longest.{printedLongest, printedStates}
 use Rattle.printing.specs.Text.{textWhen}
 use Rattle.printing.specs.Cut.{held, cut}
 
@@ -38,11 +38,11 @@ textFor widest input work table m = textWhen (printTests widest input work table
 
 -- the bytes that hold every text: `states 2048` and 2,048 lines as `2047 2047 2047`, each with its newline
 abbrev pub longestText : ℕ
-longestText = 12 + 15 * mostStates
+longestText = 12 + 15 * printedStates
 
 pub record PrintedWith (widest : ℕ) (input work work′ table table′ out out′ : List ℕ) (r : ℕ) (m : Machine) : Type 0 where
   pub canonical : printEarly widest input work ≡ passed → Canonical m (KeptBy (setOf input))
-  pub work-after : WorkAfter (printEarly widest input work) work work′
+  pub work-after : WorkAfter widest (printEarly widest input work) work work′
   pub table-after : table′ ≡ tableWhen (printTests widest input work table m) m table
   pub returned : r ≡ held (textFor widest input work table m) out
   pub out-after : out′ ≡ cut (textFor widest input work table m) out
@@ -54,8 +54,8 @@ PrintedAs widest input work work′ table table′ out out′ r = (m : Machine) 
 pub record Lent (input : List ℕ) (size : ℕ) (work table out : List ℕ) : Type 0 where
   pub bytes-read : length input ≡ mostInput + 1
   pub size-read : size ≤ length input
-  pub work-room : length work ≡ areaSize
-  pub table-room : length table ≡ sizeOf mostStates
+  pub work-room : length work ≡ areaSize printedLongest
+  pub table-room : length table ≡ sizeOf printedStates
   pub text-room : longestText ≤ length out
 
 -- what is tested of an input where no 8 and no 9 can be

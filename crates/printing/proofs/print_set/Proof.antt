@@ -1,7 +1,9 @@
 -- `printing::print_set`: an input that is too long, and else what the builder answers, each with its text. Assumes nothing.
 use mathlib.Core.Path.{sym}
 use borrow.Author.Needs.{needs}
+use native.Mathlib.Omega.{arith}
 use lib.Seq.{length-take-le}
+use Rattle.printing.specs.Longest.{printedLongest}
 use Rattle.printing.proofs.Adding.{adds-from-start}
 use Rattle.printing.proofs.Answers.{printed-long, printed-refused, printed-built, built-room}
 use Rattle.printing.proofs.print_set.Statement.{statement}
@@ -18,10 +20,10 @@ returns c =
     let p = c .before .before in
     let i = p .before .before in
     let s = i .before .before .before .before .before in
-    printed-long (s .args .input .now) (s .args .work .now) (s .args .table .now) (s .args .out .now) _ _ (i .if1 .taken) (adds-from-start _ _ _ _ (p .put-refusal .ensures))
+    printed-long printedLongest (s .args .input .now) (s .args .work .now) (s .args .table .now) (s .args .out .now) _ _ (i .if1 .taken) (adds-from-start _ _ _ _ (p .put-refusal .ensures))
 
-build-requires : tie.Need-build-requires
-build-requires c κs = search needs
+build-within-requires : tie.Need-build-within-requires
+build-within-requires c κs = search needs
 
 enum-known-answer : tie.Need-enum-known-answer
 enum-known-answer c = search needs
@@ -36,13 +38,13 @@ slice-reshare-prefix-put-table : tie.Need-slice-reshare-prefix-put-table
 slice-reshare-prefix-put-table c =
     let b = c .before .before .before .before .before .before .before in
     let s = b .before .before .before .before .before .before .before .before in
-    built-room (s .args .input .now) (s .args .work .now) _ (s .args .table .now) _ (c .before .answer2 .given .1) (b .build .ensures)
+    built-room printedLongest (s .args .input .now) (s .args .work .now) _ (s .args .table .now) _ (c .before .answer2 .given .1) (b .build-within .ensures)
 
 slice-aggregate-put-table : tie.Need-slice-aggregate-put-table
 slice-aggregate-put-table c =
     let b = c .before .before .before .before .before .before .before .before in
     let s = b .before .before .before .before .before .before .before .before in
-    sym (length-take-le _ _ (built-room (s .args .input .now) (s .args .work .now) _ (s .args .table .now) _ (c .before .before .answer2 .given .1) (b .build .ensures)))
+    sym (length-take-le _ _ (built-room printedLongest (s .args .input .now) (s .args .work .now) _ (s .args .table .now) _ (c .before .before .answer2 .given .1) (b .build-within .ensures)))
 
 put-table-requires : tie.Need-put-table-requires
 put-table-requires c κs = search needs
@@ -63,7 +65,7 @@ returns-2 c =
     let b = k .before .before .before .before .before .before in
     let i = b .before .before .before in
     let s = i .before .before .before .before .before in
-    printed-refused (s .args .input .now) (s .args .work .now) (s .args .table .now) (s .args .out .now) _ _ _ _ (i .if1 .left) (k .answer .given .1) (b .build .ensures) (adds-from-start _ _ _ _ (p .put-refusal2 .ensures))
+    printed-refused printedLongest (s .args .input .now) (s .args .work .now) (s .args .table .now) (s .args .out .now) _ _ _ _ (i .if1 .left) (k .answer .given .1) (b .build-within .ensures) (adds-from-start _ _ _ _ (p .put-refusal2 .ensures))
 
 same-length-5 : tie.Need-same-length-5
 same-length-5 c = search needs
@@ -81,7 +83,7 @@ returns-3 c =
     let b = k .before .before .before .before .before .before in
     let i = b .before .before .before in
     let s = i .before .before .before .before .before in
-    printed-built (s .args .input .now) (s .args .work .now) (s .args .table .now) (s .args .out .now) _ _ _ _ (i .if1 .left) (k .answer2 .given .1) (b .build .ensures) (adds-from-start _ _ _ _ (p .put-table .ensures))
+    printed-built printedLongest (s .args .input .now) (s .args .work .now) (s .args .table .now) (s .args .out .now) _ _ _ _ (i .if1 .left) (omega arith) (k .answer2 .given .1) (b .build-within .ensures) (adds-from-start _ _ _ _ (p .put-table .ensures))
 
 pub print-set-spec : {M : Type 1} → statement M
 print-set-spec =
@@ -90,7 +92,7 @@ print-set-spec =
     put-refusal-requires
     same-length
     returns
-    build-requires
+    build-within-requires
     enum-known-answer
     put-refusal-requires-2
     enum-known-answer-2
