@@ -7,7 +7,9 @@ use native.Mathlib.Omega.{arith}
 use lib.ListN.{length, take, drop, replicate, length-append, length-map, length-drop, take-append-drop, drop-of-length-le}
 use lib.Seq.{length-take-le, take-at, drop-at, getD-at, drop-cons, drop-drop}
 use Rattle.layout.specs.Bytes.{byteAt, fourAt, fourBytes, eightAt, eightBytes}
-use Rattle.layout.specs.Refusal.{passed, first}
+use Rattle.layout.specs.Refusal.{passed, refused, first}
+use Rattle.layout.proofs.Head.{head-right}
+use Rattle.layout.proofs.Rows.{passed-before, first-here}
 use Rattle.layout.proofs.Numbers.{four-number, eight-number, eight-past, four-off, eight-off}
 use Rattle.patterns.specs.Outcome.{bit, outcome, outcomes, outcomeRows}
 use Rattle.patterns.proofs.Numbers.{bit-le}
@@ -85,6 +87,17 @@ record-accepted widest v h set g e filled held =
       outcomes = ap (λ z. first (outcomeRows z 0)) (outcome-bytes-of-record v h set g held) ∙ bits-passed (g .outcomes) 0;
       lost = omega (arith, lost-of-record v h set g held, bit-le (g .lost));
     })
+
+-- and with a set that its outcomes don't fill it is refused by 20
+pub record-too-wide : (widest v h : ℕ) (set : List ℕ) (g : Guard) → first (setRows widest set) ≡ passed → wider (suc h) (setOf set) ≡ true → length (g .outcomes) ≡ h
+    → first (versionRows widest v h (recordOf v h set g)) ≡ refused 20 0
+record-too-wide widest v h set g e wide held =
+    let l = record-length v h set g held in
+    let s = set-of-record v h set g held in
+    let n = four-number (1 + length set + tailSize h) in
+    passed-before _ _ (head-right (aroundSet h) v 18 18 (recordOf v h set g) (omega arith) (omega (arith, n)) refl)
+    ∙ passed-before _ _ (ap (λ z. first (setRows widest z)) s ∙ e)
+    ∙ first-here 20 0 _ _ (ap (λ z. wider (suc h) (setOf z)) s ∙ wide)
 
 -- records that are equal hold the same
 pub same-record : (v h : ℕ) (set : List ℕ) (g g′ : Guard) → length (g .outcomes) ≡ h → length (g′ .outcomes) ≡ h → recordOf v h set g ≡ recordOf v h set g′

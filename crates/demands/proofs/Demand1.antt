@@ -55,9 +55,9 @@ use Rattle.demands.specs.Refusing.{Refuses}
 use Rattle.demands.proofs.Numbers.{WriteNumber, write-numbers, JudgeNumber, judge-numbers, table-numbers, look-numbers, TellNumber, tell-numbers, RowNumber, row-start-numbers, row-ask-numbers, RowTellNumber, row-tell-numbers}
 use Rattle.demands.proofs.Answers.{by-set, by-written, by-judged, by-compared, one-of, by-built, one-size, by-checked, by-started, by-asked, by-told}
 
--- Reading a set.
-pub read-refuses : (b : List ℕ) (r : SetRead) → ReadAs longest b r → Refuses read.Refused (from-to 1 7) (first (setRows longest b)) (r .answer)
-read-refuses b r read = by-set (from-to 1 7) (setRows longest b) (r .answer) (set-numbers longest b) (read .answer)
+-- Reading a set, in either edition: `widest` is its longest window.
+pub read-refuses : (widest : ℕ) (b : List ℕ) (r : SetRead) → ReadAs widest b r → Refuses read.Refused (from-to 1 7) (first (setRows widest b)) (r .answer)
+read-refuses widest b r read = by-set (from-to 1 7) (setRows widest b) (r .answer) (set-numbers widest b) (read .answer)
 
 -- Writing one.
 module _ (s : LimitSet) (out out′ : List ℕ) (r : WriteAnswer) (written : WrittenAs longest s out out′ r) where
@@ -79,24 +79,24 @@ module _ (a b : List ℕ) (r : Compared) (compared : ComparedAs longest a b r) w
   pub compare-refused-by : (which n v : ℕ) → r .answer ≡ compare.Refused which n v → from-to 1 2 which × from-to 1 7 n
   compare-refused-by which n v e = one-of (setRows longest a) (setRows longest b) (set-numbers longest a) (set-numbers longest b) (compare-refuses which n v .0 e)
 
--- The builder. The n of 7+4n is that of the canonical machine, whichever stands for it.
-module _ (set work work′ table table′ : List ℕ) (r : BuildAnswer) (built : BuiltAs longest set work work′ table table′ r) where
-  pub build-refuses : (m : Machine) → (first (earlyRows longest set work) ≡ passed → Canonical m (KeptBy (setOf set)))
-      → Refuses build.Refused (from-to 1 9) (first (buildRows longest set work table (sizeOf (m .states)))) r
+-- The builder, in either edition. The n of 7+4n is that of the canonical machine, whichever stands for it.
+module _ (widest : ℕ) (set work work′ table table′ : List ℕ) (r : BuildAnswer) (built : BuiltAs widest set work work′ table table′ r) where
+  pub build-refuses : (m : Machine) → (first (earlyRows widest set work) ≡ passed → Canonical m (KeptBy (setOf set)))
+      → Refuses build.Refused (from-to 1 9) (first (buildRows widest set work table (sizeOf (m .states)))) r
   build-refuses m canonical =
-      by-built (from-to 1 9) (buildRows longest set work table (sizeOf (m .states))) r (build-numbers longest set work table (sizeOf (m .states)))
-      (built .1 .answer ∙ one-size longest set work table (built .0) m (built .1 .canonical) canonical)
+      by-built (from-to 1 9) (buildRows widest set work table (sizeOf (m .states))) r (build-numbers widest set work table (sizeOf (m .states)))
+      (built .1 .answer ∙ one-size widest set work table (built .0) m (built .1 .canonical) canonical)
 
   module _ (n v : ℕ) (e : r ≡ build.Refused n v) where
-    rows-refused : first (buildRows longest set work table (sizeOf (built .0 .states))) ≡ refused n v
+    rows-refused : first (buildRows widest set work table (sizeOf (built .0 .states))) ≡ refused n v
     rows-refused = build-refuses (built .0) (built .1 .canonical) .exactly n v .0 e
 
     pub refused-build-leaves-table : table′ ≡ table
     refused-build-leaves-table = built .1 .table-after ∙ ap (λ t. tableWhen t (built .0) table) rows-refused
 
     -- By 1 to 8 the work area is as it was, by 9 it is cleared.
-    pub refused-build-work : (n ≤ 8 → work′ ≡ work) × (n ≡ 9 → Cleared work work′)
-    refused-build-work = work-by-number (earlyRows longest set work) table (sizeOf (built .0 .states)) (early-numbers longest set work) work work′ n v rows-refused (built .1 .work-after)
+    pub refused-build-work : (n ≤ 8 → work′ ≡ work) × (n ≡ 9 → Cleared widest work work′)
+    refused-build-work = work-by-number (earlyRows widest set work) table (sizeOf (built .0 .states)) (early-numbers widest set work) widest work work′ n v rows-refused (built .1 .work-after)
 
 -- The table check, and the guard's calls.
 pub check-refuses : (b : List ℕ) (r : TableAnswer) → CheckedAs b r → Refuses check.Refused (from-to 10 12) (first (tableRows b)) r

@@ -60,7 +60,7 @@ use Rattle.demands.specs.Guarding.{ByKept}
 use Rattle.demands.specs.Carrying.{Changed, Event, tells, Through, toldIn}
 use Rattle.demands.proofs.Tables.{made-walks-kept}
 use Rattle.demands.proofs.Guarded.{answers-by-meaning, heeded-kept, kept-not-lost as guard-not-lost, counts-heard, holds-recent, hits-bring-to-0, lost-state}
-use Rattle.demands.proofs.Through.{change-gives-back, change-can-be-had, through-told, through-cut, events-cut}
+use Rattle.demands.proofs.Through.{change-gives-back, change-can-be-had, through-told, led-from-start, through-cut, events-cut}
 use Rattle.demands.proofs.Answers.{both-accepted}
 
 -- A verdict says kept exactly when the rows before it are passed and the set keeps the outcomes, and lost, with the job, the limit and the first job of the window, exactly as that is meant.
@@ -167,7 +167,7 @@ module _ (set b : List ℕ) (t : TableOf set b) (s : start.Started) (started : S
   from-fresh = subst (λ z. Through set b z events g) (started .guard) run
 
   is-told : g ≡ toldAll b fresh told
-  is-told = through-told set b t events g from-fresh
+  is-told = through-told set b t fresh (led-from-start set b t []) events g from-fresh
 
   -- It is the guard that was told the same and never switched off.
   pub as-never-switched-off : g ≡ toldAll b (s .guard) told
@@ -175,10 +175,10 @@ module _ (set b : List ℕ) (t : TableOf set b) (s : start.Started) (started : S
 
   -- One change more gives back the guard that was written, field for field; and with room for the record there is one.
   pub change-gives-same : (r : start.Started) → Changed set b g r → r ≡ record { answer = Started; guard = g }
-  change-gives-same = rw is-told (change-gives-back set b t told)
+  change-gives-same = rw is-told (change-gives-back set b t (toldAll b fresh told) (led-from-start set b t told))
 
   pub change-is-possible : (out : List ℕ) → sizeOf carried set ≤ length out → Changed set b g (record { answer = Started; guard = g })
-  change-is-possible = rw is-told (change-can-be-had set b t told)
+  change-is-possible = rw is-told (change-can-be-had set b t (toldAll b fresh told) (led-from-start set b t told))
 
   -- It says panic exactly when the outcomes heard are kept and one more miss would make them not kept; normal where they are kept then too, lost where they aren't kept.
   pub guard-answers : (r : Asked) → AskedAs b g r → ByKept (setOf set) (heard told) (r .answer)
@@ -195,7 +195,7 @@ module _ (set b : List ℕ) (t : TableOf set b) (s : start.Started) (started : S
       in-bytes before after byte r e asked panic =
           let (es, fs, p, q) = events-cut events before after byte e in
           let (h, cut) = through-cut set b (s .guard) es (tells byte ∷ fs) g (subst (λ z. Through set b (s .guard) z g) p run) in
-          let stood : h ≡ toldAll b fresh before = through-told set b t es h (subst (λ z. Through set b z es h) (started .guard) cut) ∙ ap (toldAll b fresh) q in
+          let stood : h ≡ toldAll b fresh before = through-told set b t fresh (led-from-start set b t []) es h (subst (λ z. Through set b z es h) (started .guard) cut) ∙ ap (toldAll b fresh) q in
           met es fs byte h r p cut (subst (λ z. AskedAs b z r) (sym stood) asked) panic
 
   -- It counts the outcomes heard, lost or not, and holds the last of them, one job less than the longest window, unless it is lost.
@@ -251,5 +251,5 @@ module _ (set b : List ℕ) (t : TableOf set b) (row started last : List Guard) 
   row-change-gives-same r changed =
       let told = bytesTold (callsOf job calls) in
       let own = started-job b row started last job calls begin run on .1 in
-      let same = change-gives-back set b t told r (subst (λ z. Changed set b z r) own changed) in
+      let same = change-gives-back set b t (toldAll b fresh told) (led-from-start set b t told) r (subst (λ z. Changed set b z r) own changed) in
       (ap (λ z. z .answer) same, ap (λ z. set-guard last job (z .guard)) same ∙ ap (set-guard last job) (sym own) ∙ set-getD last job fresh)

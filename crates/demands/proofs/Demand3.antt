@@ -23,17 +23,20 @@ use Rattle.demands.specs.TableOf.{TableOf, GivenRoom}
 use Rattle.demands.proofs.Tables.{canonical-machine, made-allowed, made-canonical, made-bytes, made-checked, made-one-table, made-walks-kept}
 use Rattle.demands.proofs.Room.{room-suffices}
 
--- An accepted set that is given room yields a table: it is never refused.
-pub accepted-yields-table : (set work work′ table table′ : List ℕ) (r : BuildAnswer) → GivenRoom set work table → BuiltAs longest set work work′ table table′ r → TableOf set (take (lengthOf r) table′)
-accepted-yields-table set work work′ table table′ r given built =
-    let e = room-suffices set work work′ table table′ r given built in
+-- An accepted set that is given room yields a table: it is never refused. In either edition, the library's or the printing program's: `widest` is its longest window.
+pub accepted-yields-table : (widest : ℕ) → widest ≤ longest → (set work work′ table table′ : List ℕ) (r : BuildAnswer) → GivenRoom widest set work table → BuiltAs widest set work work′ table table′ r
+    → TableOf set (take (lengthOf r) table′)
+accepted-yields-table widest edition set work work′ table table′ r given built =
+    let e = room-suffices widest set work work′ table table′ r given built in
     record {
+      widest = widest;
+      edition = edition;
       work = work;
       work′ = work′;
       table = table;
       table′ = table′;
       size = lengthOf r;
-      built = subst (λ z. BuiltAs longest set work work′ table table′ z) e built;
+      built = subst (λ z. BuiltAs widest set work work′ table table′ z) e built;
       bytes = refl;
     }
 
@@ -52,13 +55,13 @@ module _ (set₁ set₂ b₁ b₂ : List ℕ) (t₁ : TableOf set₁ b₁) (t₂
       by : b₁ ≡ b₂ → (p : List Bool) → Can (machineOf b₁) 0 p ↔ Can (machineOf b₂) 0 p
       by e p = (λ c. subst (λ z. Can (machineOf z) 0 p) e c, λ c. subst (λ z. Can (machineOf z) 0 p) (sym e) c)
 
--- The demand whole: from acceptance and room, whatever the builder answered.
-pub accepted-sets-agree : (set₁ work₁ work₁′ table₁ table₁′ : List ℕ) (r₁ : BuildAnswer) → GivenRoom set₁ work₁ table₁ → BuiltAs longest set₁ work₁ work₁′ table₁ table₁′ r₁
-    → (set₂ work₂ work₂′ table₂ table₂′ : List ℕ) (r₂ : BuildAnswer) → GivenRoom set₂ work₂ table₂ → BuiltAs longest set₂ work₂ work₂′ table₂ table₂′ r₂
+-- The demand whole: from acceptance and room, whatever the builder answered; for two sets of one edition, and for one of each too.
+pub accepted-sets-agree : (widest₁ : ℕ) → widest₁ ≤ longest → (set₁ work₁ work₁′ table₁ table₁′ : List ℕ) (r₁ : BuildAnswer) → GivenRoom widest₁ set₁ work₁ table₁ → BuiltAs widest₁ set₁ work₁ work₁′ table₁ table₁′ r₁
+    → (widest₂ : ℕ) → widest₂ ≤ longest → (set₂ work₂ work₂′ table₂ table₂′ : List ℕ) (r₂ : BuildAnswer) → GivenRoom widest₂ set₂ work₂ table₂ → BuiltAs widest₂ set₂ work₂ work₂′ table₂ table₂′ r₂
     → (take (lengthOf r₁) table₁′ ≡ take (lengthOf r₂) table₂′) ↔ ((p : List Bool) → KeptBy (setOf set₁) p ↔ KeptBy (setOf set₂) p)
-accepted-sets-agree set₁ work₁ work₁′ table₁ table₁′ r₁ given₁ built₁ set₂ work₂ work₂′ table₂ table₂′ r₂ given₂ built₂ =
+accepted-sets-agree widest₁ edition₁ set₁ work₁ work₁′ table₁ table₁′ r₁ given₁ built₁ widest₂ edition₂ set₂ work₂ work₂′ table₂ table₂′ r₂ given₂ built₂ =
     same-bytes-same-patterns set₁ set₂ (take (lengthOf r₁) table₁′) (take (lengthOf r₂) table₂′)
-    (accepted-yields-table set₁ work₁ work₁′ table₁ table₁′ r₁ given₁ built₁) (accepted-yields-table set₂ work₂ work₂′ table₂ table₂′ r₂ given₂ built₂)
+    (accepted-yields-table widest₁ edition₁ set₁ work₁ work₁′ table₁ table₁′ r₁ given₁ built₁) (accepted-yields-table widest₂ edition₂ set₂ work₂ work₂′ table₂ table₂′ r₂ given₂ built₂)
 
 module _ (set b : List ℕ) (t : TableOf set b) where
   -- No machine with fewer states walks exactly those patterns.
@@ -70,7 +73,7 @@ module _ (set b : List ℕ) (t : TableOf set b) where
 
   pub table-states : stateCount b ≤ mostStates
   table-states =
-      let f = no-more-states (setOf set) (made-allowed set b t) (canonical-machine set b t) (made-canonical set b t) in
+      let f = no-more-states longest (setOf set) (made-allowed set b t) (canonical-machine set b t) (made-canonical set b t) in
       let e = made-one-table set b t .states in
       omega arith
 

@@ -32,7 +32,7 @@ use Rattle.guard.specs.Guard.{mostTold, standing, fresh, AskedAs, latest}
 use Rattle.guard.specs.Told.{afterAll, toldAll, heard}
 use Rattle.guard.proofs.Latest.{latest-length, latest-whole}
 use Rattle.guard.proofs.Heard.{heard-none, heard-next, heard-hits}
-use Rattle.guard.proofs.Walked.{count-all, told-walk, after-lost, lost-not-walked, told-then, Led, led-from-start}
+use Rattle.guard.proofs.Walked.{count-all, told-walk, after-lost, lost-not-walked, told-then, Led}
 use Rattle.guard.proofs.InTable.{told-heard, told-all, never-leaves, answers-by-walk}
 use Rattle.demands.specs.TableOf.{TableOf}
 use Rattle.demands.specs.Guarding.{ByKept}
@@ -177,17 +177,15 @@ module _ (set b : List ℕ) (t : TableOf set b) where
   pub counts-heard : (told : List ℕ) → toldAll b fresh told .count ≡ length (heard told)
   counts-heard told = ap (λ z. z .count) (after-told told) ∙ count-all m fresh (heard told) ∙ zero-add (length (heard told))
 
-  -- what a guard holds leads where it stands, lost or not
-  pub outcomes-lead : (told : List ℕ) → walk m 0 (toldAll b fresh told .outcomes) ≡ some (toldAll b fresh told .state)
-  outcomes-lead told =
-      let led = subst (Led m 0 (fresh .outcomes)) (sym (after-told told)) (led-from-start m 0 (fresh .outcomes) (heard told) 0) in
-      let q = led .by in
-      ap (walk m 0) (led .holds ∙ sym (recent-last q (longest - 1))) ∙ recent-leads-there q (made-walks-kept set b t q .0 (toldAll b fresh told .state, led .leads)) ∙ led .leads
+  -- what a guard holds leads where it stands, lost or not, where some outcomes led it there
+  module _ (g : Guard) (led : Led m 0 (fresh .outcomes) g) where
+    pub outcomes-lead : walk m 0 (g .outcomes) ≡ some (g .state)
+    outcomes-lead =
+        let q = led .by in
+        ap (walk m 0) (led .holds ∙ sym (recent-last q (longest - 1))) ∙ recent-leads-there q (made-walks-kept set b t q .0 (g .state, led .leads)) ∙ led .leads
 
-  pub outcomes-many : (told : List ℕ) → length (toldAll b fresh told .outcomes) ≡ longest - 1
-  outcomes-many told =
-      let led = subst (Led m 0 (fresh .outcomes)) (sym (after-told told)) (led-from-start m 0 (fresh .outcomes) (heard told) 0) in
-      ap length (led .holds) ∙ latest-length (fresh .outcomes) (led .by)
+    pub outcomes-many : length (g .outcomes) ≡ longest - 1
+    outcomes-many = ap length (led .holds) ∙ latest-length (fresh .outcomes) (led .by)
 
   -- a guard that lost keeps the state and the outcomes from before the losing miss, whatever it is told after it
   pub lost-state : (told : List ℕ) (q r : List Bool) → heard told ≡ q ++ (false ∷ r) → KeptBy (setOf set) q → (KeptBy (setOf set) (q ++ false ∷ []) → ⊥)

@@ -4,6 +4,7 @@ pub mod Demand3
 pub mod Boundary
 pub mod NightLog
 pub mod Carried
+pub mod OldRecords
 pub mod WorkedRows
 pub mod Tables
 pub mod Room

@@ -11,6 +11,7 @@ use Rattle.layout.specs.Write.{roomRow}
 use Rattle.layout.proofs.Rows.{Numbers, from-to, numbers-append, numbers-among}
 use Rattle.patterns.specs.Outcome.{outcomeRows}
 use Rattle.meaning.specs.declared.LimitSet.{LimitSet}
+use Rattle.sets.specs.Bytes.{setOf}
 use Rattle.sets.specs.Rows.{setRows, memoryRows}
 use Rattle.sets.specs.Write.{sizeOf, writeRows}
 use Rattle.sets.proofs.Numbers.{set-numbers, MemoryNumber, memory-numbers}
@@ -24,7 +25,7 @@ use Rattle.guard.specs.declared.Guard.{Guard}
 use Rattle.guard.specs.Guard.{mostTold, tellRows}
 use Rattle.guard.specs.Row.{guardAt, rowStartRows, rowAskRows, rowTellRows}
 use Rattle.carry.specs.Bytes.{sizeOf as recordSize, setIn, outcomeBytes, lostByte}
-use Rattle.carry.specs.Rows.{writeRows as recordWriteRows, recordRows, ledTo, leadsNowhere, readRows}
+use Rattle.carry.specs.Rows.{writeRows as recordWriteRows, wider, versionRows, ledTo, leadsNowhere, readRows}
 
 -- writing a set: 3, 5, 6, 7, 9
 abbrev pub WriteNumber : ℕ → Type 0
@@ -124,7 +125,7 @@ module _ (r : List Guard) (job : ℕ) (b : List ℕ) where
 pub row-tell-positive : (n : ℕ) → RowTellNumber n → 1 ≤ n
 row-tell-positive n = ⊎-elim (λ (l, h). omega arith) (λ e. omega arith)
 
--- a carry-over record: writing 1 to 7 and 9, reading back 18, 1 to 7, 13, 19, 10 to 12, 25
+-- a carry-over record: writing 1 to 7 and 9, reading back 18, 1 to 7, 20, 13, 19, 10 to 12, 25
 abbrev pub CarryWriteNumber : ℕ → Type 0
 CarryWriteNumber n = from-to 1 7 n ⊎ (n ≡ 9)
 
@@ -137,40 +138,44 @@ pub carry-write-positive : (n : ℕ) → CarryWriteNumber n → 1 ≤ n
 carry-write-positive n = ⊎-elim (λ (l, h). omega arith) (λ e. omega arith)
 
 abbrev pub CarryReadNumber : ℕ → Type 0
-CarryReadNumber n = from-to 1 7 n ⊎ (from-to 10 13 n ⊎ (from-to 18 19 n ⊎ (n ≡ 25)))
+CarryReadNumber n = from-to 1 7 n ⊎ (from-to 10 13 n ⊎ (from-to 18 20 n ⊎ (n ≡ 25)))
 
-module _ (w h : ℕ) (r b : List ℕ) where
+module _ (w many v h : ℕ) (r b : List ℕ) where
   among : (Q : ℕ → Type 0) → ((n : ℕ) → Q n → CarryReadNumber n) → (rows : List Row) → Numbers Q rows → Numbers CarryReadNumber rows
   among Q = numbers-among Q CarryReadNumber
 
-  by-18-19 : (n : ℕ) → from-to 18 19 n → CarryReadNumber n
-  by-18-19 n l = inr (inr (inl l))
+  by-18-20 : (n : ℕ) → from-to 18 20 n → CarryReadNumber n
+  by-18-20 n l = inr (inr (inl l))
 
   by-10-13 : (n : ℕ) → from-to 10 13 n → CarryReadNumber n
   by-10-13 n l = inr (inl l)
 
-  lost-numbers : Numbers CarryReadNumber (row 19 (ltb 1 (lostByte r)) 0 ∷ [])
-  lost-numbers = (by-18-19 19 (omega arith, omega arith), tt)
+  abbrev lostRow : List Row
+  lostRow = row 19 (ltb 1 (lostByte r)) 0 ∷ []
 
-  outcomes-numbers : Numbers CarryReadNumber (outcomeRows (outcomeBytes h r) 0 ++ row 19 (ltb 1 (lostByte r)) 0 ∷ [])
+  abbrev widthRow : Row
+  widthRow = row 20 (wider (suc h) (setOf (setIn h r))) 0
+
+  outcomes-numbers : Numbers CarryReadNumber (outcomeRows (outcomeBytes h r) 0 ++ lostRow)
   outcomes-numbers =
-      numbers-append CarryReadNumber (outcomeRows (outcomeBytes h r) 0) (row 19 (ltb 1 (lostByte r)) 0 ∷ [])
-      (among (λ n. n ≡ 13) (λ n e. by-10-13 n (omega arith, omega arith)) (outcomeRows (outcomeBytes h r) 0) (outcome-numbers (outcomeBytes h r) 0)) lost-numbers
+      numbers-append CarryReadNumber (outcomeRows (outcomeBytes h r) 0) lostRow
+      (among (λ n. n ≡ 13) (λ n e. by-10-13 n (omega arith, omega arith)) (outcomeRows (outcomeBytes h r) 0) (outcome-numbers (outcomeBytes h r) 0))
+      (by-18-20 19 (omega arith, omega arith), tt)
 
-  record-numbers : Numbers CarryReadNumber (recordRows w h r)
+  record-numbers : Numbers CarryReadNumber (versionRows w v h r)
   record-numbers = (
-    by-18-19 18 (omega arith, omega arith),
+    by-18-20 18 (omega arith, omega arith),
     (
-      by-18-19 18 (omega arith, omega arith),
-      numbers-append CarryReadNumber (setRows w (setIn h r)) (outcomeRows (outcomeBytes h r) 0 ++ row 19 (ltb 1 (lostByte r)) 0 ∷ [])
-          (among (from-to 1 7) (λ n l. inl l) (setRows w (setIn h r)) (set-numbers w (setIn h r))) outcomes-numbers,
+      by-18-20 18 (omega arith, omega arith),
+      numbers-append CarryReadNumber (setRows w (setIn h r)) (widthRow ∷ (outcomeRows (outcomeBytes h r) 0 ++ lostRow))
+          (among (from-to 1 7) (λ n l. inl l) (setRows w (setIn h r)) (set-numbers w (setIn h r))) (by-18-20 20 (omega arith, omega arith), outcomes-numbers),
     ),
   )
 
-  pub carry-read-numbers : Numbers CarryReadNumber (readRows w h r b)
+  pub carry-read-numbers : Numbers CarryReadNumber (readRows w many v h r b)
   carry-read-numbers =
-      numbers-append CarryReadNumber (recordRows w h r) (tableRows b ++ row 25 (leadsNowhere (ledTo h r b)) 0 ∷ []) record-numbers
-      (numbers-append CarryReadNumber (tableRows b) (row 25 (leadsNowhere (ledTo h r b)) 0 ∷ [])
+      numbers-append CarryReadNumber (versionRows w v h r) (tableRows b ++ row 25 (leadsNowhere (ledTo many h r b)) 0 ∷ []) record-numbers
+      (numbers-append CarryReadNumber (tableRows b) (row 25 (leadsNowhere (ledTo many h r b)) 0 ∷ [])
       (among (from-to 10 12) (λ n (l, g). by-10-13 n (omega arith, omega arith)) (tableRows b) (table-numbers b)) (inr (inr (inr refl)), tt))
 
 pub carry-read-positive : (n : ℕ) → CarryReadNumber n → 1 ≤ n

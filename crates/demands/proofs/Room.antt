@@ -7,7 +7,6 @@ use lib.ListN.{length}
 use Rattle.layout.specs.Refusal.{passed, first}
 use Rattle.layout.specs.Write.{roomRow}
 use Rattle.layout.proofs.Rows.{long-enough, passed-before, passed-not-refused}
-use Rattle.meaning.specs.Longest.{longest}
 use Rattle.sets.specs.Bytes.{setOf}
 use Rattle.sets.specs.Rows.{setRows}
 use Rattle.sets.proofs.Accepted.{accepted-allowed}
@@ -19,24 +18,25 @@ use Rattle.builder.specs.Build.{areaRow, earlyRows, buildRows, says, lengthOf, 
 use Rattle.builder.proofs.BuiltTables.{no-more-states}
 use Rattle.demands.specs.TableOf.{GivenRoom}
 
-early-passed : (set work table : List ℕ) → GivenRoom set work table → first (earlyRows longest set work) ≡ passed
-early-passed set work table given =
-    passed-before (setRows longest set) (areaRow work ∷ []) (given .accepted) ∙ long-enough 8 0 (length work) areaSize (given .area)
+module _ (widest : ℕ) where
+  early-passed : (set work table : List ℕ) → GivenRoom widest set work table → first (earlyRows widest set work) ≡ passed
+  early-passed set work table given =
+      passed-before (setRows widest set) (areaRow widest work ∷ []) (given .accepted) ∙ long-enough 8 0 (length work) (areaSize widest) (given .area)
 
-pub room-suffices : (set work work′ table table′ : List ℕ) (r : BuildAnswer) → GivenRoom set work table → BuiltAs longest set work work′ table table′ r → r ≡ Built (lengthOf r)
-room-suffices set work work′ table table′ r given (m, built) = known r (built .answer ∙ all-passed)
-  where
-    size : ℕ
-    size = sizeOf (m .states)
+  pub room-suffices : (set work work′ table table′ : List ℕ) (r : BuildAnswer) → GivenRoom widest set work table → BuiltAs widest set work work′ table table′ r → r ≡ Built (lengthOf r)
+  room-suffices set work work′ table table′ r given (m, built) = known r (built .answer ∙ all-passed)
+    where
+      size : ℕ
+      size = sizeOf (m .states)
 
-    room-passed : first (roomRow table size ∷ []) ≡ passed
-    room-passed =
-        let most = no-more-states (setOf set) (accepted-allowed longest set (given .accepted)) m (built .canonical (early-passed set work table given)) in
-        long-enough 9 size (length table) size (omega (arith, given .room))
+      room-passed : first (roomRow table size ∷ []) ≡ passed
+      room-passed =
+          let most = no-more-states widest (setOf set) (accepted-allowed widest set (given .accepted)) m (built .canonical (early-passed set work table given)) in
+          long-enough 9 size (length table) size (omega (arith, given .room))
 
-    all-passed : first (buildRows longest set work table size) ≡ passed
-    all-passed = passed-before (earlyRows longest set work) (roomRow table size ∷ []) (early-passed set work table given) ∙ room-passed
+      all-passed : first (buildRows widest set work table size) ≡ passed
+      all-passed = passed-before (earlyRows widest set work) (roomRow table size ∷ []) (early-passed set work table given) ∙ room-passed
 
-    known : (r : BuildAnswer) → says r ≡ passed → r ≡ Built (lengthOf r)
-    known (Built n) e = refl
-    known (Refused n v) e = absurd (passed-not-refused (sym e))
+      known : (r : BuildAnswer) → says r ≡ passed → r ≡ Built (lengthOf r)
+      known (Built n) e = refl
+      known (Refused n v) e = absurd (passed-not-refused (sym e))

@@ -1,4 +1,4 @@
--- What a table built from a set is: the bytes of the canonical machine for what the set keeps. It passes the check and is walked by exactly the kept patterns. Assumes nothing.
+-- What a table built from a set is, whichever edition built it: the bytes of the canonical machine for what the set keeps. It passes the check and is walked by exactly the kept patterns. Assumes nothing.
 use mathlib.Core.Path.{_≡_, sym, ap, _∙_, subst}
 use mathlib.Core.Logic.{_↔_}
 use mathlib.Core.Bool.{Bool}
@@ -12,33 +12,37 @@ use Rattle.meaning.specs.Longest.{longest}
 use Rattle.meaning.specs.Sets.{SetAllowed, KeptBy}
 use Rattle.sets.specs.Bytes.{setOf}
 use Rattle.sets.specs.Rows.{setRows}
+use Rattle.sets.proofs.Accepted.{accepted-head, passed-rows}
 use Rattle.table.specs.Bytes.{machineOf, bytesOf}
 use Rattle.table.specs.Rows.{tableRows}
 use Rattle.table.proofs.Checked.{checked-well-made}
 use Rattle.builder.proofs.BuiltTables.{built-accepted, built-allowed, built-canonical, built-bytes, built-checked, built-one-table}
+use Rattle.builder.proofs.Windows.{set-wider}
 use Rattle.demands.specs.TableOf.{TableOf}
 
 module _ (set b : List ℕ) (t : TableOf set b) where
   abbrev pub canonical-machine : Machine
   canonical-machine = t .built .0
 
-  pub made-accepted : first (setRows longest set) ≡ passed
-  made-accepted = built-accepted set (t .work) (t .work′) (t .table) (t .table′) (t .size) (t .built)
-
   pub made-allowed : SetAllowed longest (setOf set)
-  made-allowed = built-allowed set (t .work) (t .work′) (t .table) (t .table′) (t .size) (t .built)
+  made-allowed = set-wider (t .widest) longest (setOf set) (t .edition) (built-allowed (t .widest) set (t .work) (t .work′) (t .table) (t .table′) (t .size) (t .built))
+
+  pub made-accepted : first (setRows longest set) ≡ passed
+  made-accepted =
+      let e = built-accepted (t .widest) set (t .work) (t .work′) (t .table) (t .table′) (t .size) (t .built) in
+      passed-rows longest set (accepted-head (t .widest) set e) made-allowed
 
   pub made-canonical : Canonical canonical-machine (KeptBy (setOf set))
-  made-canonical = built-canonical set (t .work) (t .work′) (t .table) (t .table′) (t .size) (t .built)
+  made-canonical = built-canonical (t .widest) set (t .work) (t .work′) (t .table) (t .table′) (t .size) (t .built)
 
   pub made-bytes : b ≡ bytesOf canonical-machine
-  made-bytes = t .bytes ∙ built-bytes set (t .work) (t .work′) (t .table) (t .table′) (t .size) (t .built)
+  made-bytes = t .bytes ∙ built-bytes (t .widest) set (t .work) (t .work′) (t .table) (t .table′) (t .size) (t .built)
 
   pub made-checked : first (tableRows b) ≡ passed
-  made-checked = subst (λ z. first (tableRows z) ≡ passed) (sym (t .bytes)) (built-checked set (t .work) (t .work′) (t .table) (t .table′) (t .size) (t .built))
+  made-checked = subst (λ z. first (tableRows z) ≡ passed) (sym (t .bytes)) (built-checked (t .widest) set (t .work) (t .work′) (t .table) (t .table′) (t .size) (t .built) (t .edition))
 
   pub made-one-table : OneTable (machineOf b) canonical-machine
-  made-one-table = subst (λ z. OneTable (machineOf z) canonical-machine) (sym (t .bytes)) (built-one-table set (t .work) (t .work′) (t .table) (t .table′) (t .size) (t .built))
+  made-one-table = subst (λ z. OneTable (machineOf z) canonical-machine) (sym (t .bytes)) (built-one-table (t .widest) set (t .work) (t .work′) (t .table) (t .table′) (t .size) (t .built) (t .edition))
 
   pub made-walk : (p : List Bool) → walk (machineOf b) 0 p ≡ walk canonical-machine (canonical-machine .start) p
   made-walk p =

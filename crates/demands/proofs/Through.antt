@@ -1,6 +1,6 @@
--- A guard through changes of the battery, on the table built from the set that its record carries: a change gives back the guard that was written, field for field, so a run with changes leaves the guard that the same tells without them leave. By induction on the events. Assumes nothing.
+-- A guard through changes of the battery, on the table built from the set that its record carries: a change gives back the guard that was written, field for field, so a run with changes leaves the guard that the same tells without them leave. The same from any guard that outcomes led where it stands. By induction on the events. Assumes nothing.
 use mathlib.Core.Path.{_≡_, refl, sym, ap, ap₂, subst, _∙_}
-use mathlib.Core.List.{List, [], _∷_, _++_, append-assoc, append-nil}
+use mathlib.Core.List.{List, [], _∷_, _++_}
 use Prim.Native.Nat.{ℕ, suc, _≤_}
 use native.Mathlib.Omega.{arith}
 use lib.ListN.{length, drop}
@@ -9,10 +9,11 @@ use Rattle.meaning.specs.Longest.{longest}
 use Rattle.guard.specs.declared.Guard.{Guard}
 use Rattle.guard.specs.declared.Started.{Started}
 use Rattle.guard.specs.declared.StartAnswer.the-variants as start
-use Rattle.guard.specs.Guard.{fresh}
+use Rattle.table.specs.Bytes.{machineOf}
+use Rattle.guard.specs.Guard.{fresh, toldOf}
 use Rattle.guard.specs.Told.{toldAll}
-use Rattle.guard.proofs.Walked.{told-then}
-use Rattle.carry.specs.Bytes.{carried, sizeOf, recordOf}
+use Rattle.guard.proofs.Walked.{Led, led-start, led-told}
+use Rattle.carry.specs.Bytes.{newVersion, carried, sizeOf, recordOf}
 use Rattle.carry.specs.Read.{ReadBackAs}
 use Rattle.carry.proofs.RoundTrip.{record-length}
 use Rattle.carry.proofs.Back.{can-be-written, reads-back, carried-back}
@@ -22,40 +23,42 @@ use Rattle.demands.proofs.Tables.{made-accepted, made-checked}
 use Rattle.demands.proofs.Guarded.{outcomes-lead, outcomes-many}
 
 module _ (set b : List ℕ) (t : TableOf set b) where
-  module _ (told : List ℕ) where
-    abbrev g : Guard
-    g = toldAll b fresh told
+  -- outcomes led the guard where it stands, and it holds the last of them
+  abbrev pub LedThere : Guard → Type 0
+  LedThere g = Led (machineOf b) 0 (fresh .outcomes) g
 
+  module _ (g : Guard) (led : LedThere g) where
     pub change-gives-back : (r : Started) → Changed set b g r → r ≡ record { answer = start.Started; guard = g }
     change-gives-back r c =
-        carried-back longest carried set g (outcomes-many set b t told) b (c .out) (c .out′) (c .size) r (made-checked set b t) (outcomes-lead set b t told) (c .written) (c .back)
+        carried-back longest carried set g (outcomes-many set b t g led) refl b (c .out) (c .out′) (c .size) r (made-checked set b t) (outcomes-lead set b t g led) (c .written) (c .back)
 
     -- and with room for the record there is a change
     pub change-can-be-had : (out : List ℕ) → sizeOf carried set ≤ length out → Changed set b g (record { answer = start.Started; guard = g })
     change-can-be-had out room =
-        let many = outcomes-many set b t told in
+        let many = outcomes-many set b t g led in
         let accepted = made-accepted set b t in
+        let r = recordOf newVersion carried set g in
         record {
           out = out;
-          out′ = recordOf carried set g ++ drop (sizeOf carried set) out;
+          out′ = r ++ drop (sizeOf carried set) out;
           size = sizeOf carried set;
           written = can-be-written longest carried set g many out accepted room;
           back =
-              subst (λ z. ReadBackAs longest carried z b (record { answer = start.Started; guard = g })) (sym (take-at (recordOf carried set g) (drop (sizeOf carried set) out) (sizeOf carried set) (record-length carried set g many)))
-              (reads-back longest carried set g many b accepted (made-checked set b t) (outcomes-lead set b t told));
+              subst (λ z. ReadBackAs longest carried z b (record { answer = start.Started; guard = g })) (sym (take-at r (drop (sizeOf carried set) out) (sizeOf carried set) (record-length newVersion carried set g many)))
+              (reads-back longest carried set g many refl b accepted (made-checked set b t) (outcomes-lead set b t g led));
         }
 
-  -- from a guard that was told some bytes on
-  through-after : (told : List ℕ) (events : List Event) (h : Guard) → Through set b (toldAll b fresh told) events h → h ≡ toldAll b fresh (told ++ toldIn events)
-  through-after told [] h e = e ∙ ap (toldAll b fresh) (sym (append-nil told))
-  through-after told (tells byte ∷ events) h (r, answered, rest) =
-      let next : r .guard ≡ toldAll b fresh (told ++ byte ∷ []) = answered .guard ∙ sym (told-then b fresh told (byte ∷ [])) in
-      through-after (told ++ byte ∷ []) events h (subst (λ z. Through set b z events h) next rest) ∙ ap (toldAll b fresh) (append-assoc told (byte ∷ []) (toldIn events))
-  through-after told (changes ∷ events) h (r, changed, rest) =
-      through-after told events h (subst (λ z. Through set b z events h) (ap (λ z. z .guard) (change-gives-back told r changed)) rest)
+  -- from there on
+  pub through-told : (g : Guard) → LedThere g → (events : List Event) (h : Guard) → Through set b g events h → h ≡ toldAll b g (toldIn events)
+  through-told g led [] h e = e
+  through-told g led (tells byte ∷ events) h (r, answered, rest) =
+      through-told (toldOf b g byte) (led-told b 0 (fresh .outcomes) g (byte ∷ []) led) events h (subst (λ z. Through set b z events h) (answered .guard) rest)
+  through-told g led (changes ∷ events) h (r, changed, rest) =
+      through-told g led events h (subst (λ z. Through set b z events h) (ap (λ z. z .guard) (change-gives-back g led r changed)) rest)
 
-  pub through-told : (events : List Event) (h : Guard) → Through set b fresh events h → h ≡ toldAll b fresh (toldIn events)
-  through-told events h run = through-after [] events h run
+  -- a guard that start gave, told any bytes
+  pub led-from-start : (told : List ℕ) → LedThere (toldAll b fresh told)
+  led-from-start told = led-told b 0 (fresh .outcomes) fresh told (led-start (machineOf b) 0 (fresh .outcomes) 0)
 
 -- a run can be cut before a tell: up to there it is a run too
 pub through-cut : (set b : List ℕ) (g : Guard) (before after : List Event) (h : Guard) → Through set b g (before ++ after) h → (i : Guard) × Through set b g before i

@@ -1,15 +1,15 @@
 -- RULES, A change of the battery: a guard "is written to a record before it is switched off, or after every tell, and read back from it afterwards", and "the outcomes told so far are those told before a change and after it". A run of one guard on a table: outcomes told and changes of the battery, in any order and any number.
 use mathlib.Core.Path.{_≡_}
 use mathlib.Core.List.{List, [], _∷_}
-use Prim.Native.Nat.{ℕ}
-use lib.ListN.{take}
+use Prim.Native.Nat.{ℕ, _-_}
+use lib.ListN.{length, take, drop}
 use Rattle.layout.specs.declared.WriteAnswer.the-variants.{Written}
 use Rattle.meaning.specs.Longest.{longest}
 use Rattle.guard.specs.declared.Guard.{Guard}
 use Rattle.guard.specs.declared.Started.{Started}
 use Rattle.guard.specs.declared.Told.{Told}
 use Rattle.guard.specs.Guard.{ToldAs}
-use Rattle.carry.specs.Bytes.{carried}
+use Rattle.carry.specs.Bytes.{oldVersion, oldCarried, carried, recordOf}
 use Rattle.carry.specs.Write.{RecordWrittenAs}
 use Rattle.carry.specs.Read.{ReadBackAs}
 
@@ -36,3 +36,16 @@ abbrev pub toldIn : List Event → List ℕ
 toldIn [] = []
 toldIn (tells byte ∷ events) = byte ∷ toldIn events
 toldIn (changes ∷ events) = toldIn events
+
+-- RULES, A change of the battery: "A record of version 1 was written by a library whose guards held 11 outcomes": the last of those that this guard holds, with its count and whether it is lost
+abbrev pub withLast : (k : ℕ) → Guard → Guard
+withLast k g = record { state = g .state; lost = g .lost; outcomes = drop (length (g .outcomes) - k) (g .outcomes); count = g .count }
+
+abbrev pub oldRecordOf : (set : List ℕ) → Guard → List ℕ
+oldRecordOf set g = recordOf oldVersion oldCarried set (withLast oldCarried g)
+
+-- two guards that differ in the outcomes that they hold at the most
+pub record Alike (g g′ : Guard) : Type 0 where
+  pub state : g .state ≡ g′ .state
+  pub lost : g .lost ≡ g′ .lost
+  pub count : g .count ≡ g′ .count

@@ -55,7 +55,7 @@ same-start a a′ e = start-known a ∙ ap startOf e ∙ sym (start-known a′)
 pub same-ask : (miss : Option ℕ) (g : Guard) (a a′ : AskAnswer) → askSays a ≡ askSays a′ → StandingBy miss g a → StandingBy miss g a′ → a ≡ a′
 same-ask miss g a a′ e s s′ = ask-known miss g a s ∙ ap (askOf miss g) e ∙ sym (ask-known miss g a′ s′)
 
-same-tell : (a a′ : TellAnswer) → tellSays a ≡ tellSays a′ → a ≡ a′
+pub same-tell : (a a′ : TellAnswer) → tellSays a ≡ tellSays a′ → a ≡ a′
 same-tell a a′ e = tell-known a ∙ ap tellOf e ∙ sym (tell-known a′)
 
 module _ (b : List ℕ) where

@@ -2,16 +2,17 @@
 use mathlib.Core.Path.{_≡_, refl, sym, ap, subst, _∙_}
 use mathlib.Core.Logic.{_↔_}
 use mathlib.Core.Option.{Option, none, some, Option·none-ne-some}
-use mathlib.Core.Bool.{Bool, true, false, true≢false}
+use mathlib.Core.Bool.{Bool, true, false, cond, true≢false}
 use mathlib.Core.List.{List, [], _∷_, _++_}
 use Prim.Native.Nat.{ℕ, suc, _+_}
 use native.Mathlib.Nat.{add-zero}
 use native.Mathlib.Omega.{arith}
 use lib.ListN.{length}
-use Rattle.table.specs.Shared.{Machine, walk, Can}
+use Rattle.table.specs.Shared.{Tested, passed, refused, first, outcome, Machine, walk, Can}
+use Rattle.table.specs.Bytes.{machineOf}
 use Rattle.table.proofs.Shared.{walk-first, walk-snoc}
 use Rattle.guard.specs.declared.Guard.{Guard}
-use Rattle.guard.specs.Guard.{standing, lostIn, latest, after, toldOf}
+use Rattle.guard.specs.Guard.{standing, latest, lostIn, moved, after, tellRows, toldWhen, toldOf}
 use Rattle.guard.specs.Told.{afterAll, toldAll}
 use Rattle.guard.proofs.Latest.{latest-none, latest-latest}
 
@@ -103,18 +104,25 @@ module _ (m : Machine) (start : ℕ) (hs : List Bool) where
     pub leads : walk m start by ≡ some (g .state)
     pub holds : g .outcomes ≡ latest hs by
 
-  led-on : (q p : List Bool) (s n : ℕ) → walk m start q ≡ some s → Led (afterAll m (standing s (latest hs q) n) p)
-  led-on q [] s n e = record { by = q; leads = e; holds = refl }
-  led-on q (o ∷ p) s n e = go (m .next s o) refl (λ u. led-on (q ++ o ∷ []) p u (n + 1))
+  led-after : (g : Guard) (o : Bool) → Led g → Led (after m g o)
+  led-after g o led = go (g .lost) (m .next (g .state) o) refl
     where
-      go : (x : Option ℕ) → m .next s o ≡ x → ((u : ℕ) → walk m start (q ++ o ∷ []) ≡ some u → Led (afterAll m (standing u (latest hs (q ++ o ∷ [])) (n + 1)) p))
-          → Led (afterAll m (standing s (latest hs q) n) (o ∷ p))
-      go none f ih =
-          subst Led (sym (ap (λ z. afterAll m z p) (step-blocked m s (latest hs q) n o f) ∙ lost-stays m s (latest hs q) (n + 1) p))
-          (record { by = q; leads = e; holds = refl })
-      go (some u) f ih =
-          subst Led (sym (ap (λ z. afterAll m z p) (step-moves m s u (latest hs q) n o f ∙ ap (λ l. standing u l (n + 1)) (latest-latest hs q (o ∷ [])))))
-          (ih u (walk-snoc m start s q o e ∙ f))
+      go : (l : Bool) (x : Option ℕ) → m .next (g .state) o ≡ x → Led (cond l (lostIn (g .state) (g .outcomes) (g .count + 1)) (moved x g o))
+      go true x f = record { by = led .by; leads = led .leads; holds = led .holds }
+      go false none f = record { by = led .by; leads = led .leads; holds = led .holds }
+      go false (some u) f = record {
+        by = led .by ++ o ∷ [];
+        leads = walk-snoc m start (g .state) (led .by) o (led .leads) ∙ f;
+        holds = ap (λ l. latest l (o ∷ [])) (led .holds) ∙ latest-latest hs (led .by) (o ∷ []);
+      }
 
-  pub led-from-start : (p : List Bool) (n : ℕ) → Led (afterAll m (standing start hs n) p)
-  led-from-start p n = subst (λ os. Led (afterAll m (standing start os n) p)) (latest-none hs) (led-on [] p start n refl)
+  pub led-start : (n : ℕ) → Led (standing start hs n)
+  led-start n = record { by = []; leads = refl; holds = sym (latest-none hs) }
+
+pub led-told : (b : List ℕ) (start : ℕ) (hs : List Bool) (g : Guard) (bytes : List ℕ) → Led (machineOf b) start hs g → Led (machineOf b) start hs (toldAll b g bytes)
+led-told b start hs g [] led = led
+led-told b start hs g (byte ∷ bytes) led = led-told b start hs (toldOf b g byte) bytes (go (first (tellRows b g byte)))
+  where
+    go : (t : Tested) → Led (machineOf b) start hs (toldWhen t (machineOf b) g (outcome byte))
+    go passed = led-after (machineOf b) start hs g (outcome byte) led
+    go (refused n v) = led
