@@ -5,7 +5,7 @@ use mathlib.Core.Logic.{_↔_}
 use mathlib.Core.Option.{some}
 use mathlib.Core.Bool.{Bool, true, false}
 use mathlib.Core.List.{List, [], _∷_, _++_}
-use Prim.Native.Nat.{ℕ, _+_, _-_, _≤_, _<_}
+use Prim.Native.Nat.{ℕ, suc, _+_, _-_, _≤_, _<_}
 use native.Mathlib.Omega.{arith}
 use lib.IntN.{ℤ, pos, _+ℤ_}
 use lib.ListN.{length, replicate}
@@ -54,13 +54,16 @@ use Rattle.guard.specs.Row.{guardAt, RowStartedAs, RowAskedAs}
 use Rattle.guard.specs.Runs.{RowCall, RowRun, callsOf, OnTable, bytesTold}
 use Rattle.guard.proofs.Walked.{told-then}
 use Rattle.guard.proofs.Alone.{own-ask, started-job}
-use Rattle.carry.specs.Bytes.{carried, sizeOf}
+use Rattle.carry.specs.Bytes.{oldCarried, carried, sizeOf}
+use Rattle.carry.specs.Rows.{wider}
+use Rattle.carry.specs.Read.{ReadBackAs}
 use Rattle.demands.specs.TableOf.{TableOf}
 use Rattle.demands.specs.Guarding.{ByKept}
-use Rattle.demands.specs.Carrying.{Changed, Event, tells, Through, toldIn}
+use Rattle.demands.specs.Carrying.{Changed, Event, tells, Through, toldIn, oldRecordOf, Alike}
 use Rattle.demands.proofs.Tables.{made-walks-kept}
 use Rattle.demands.proofs.Guarded.{answers-by-meaning, heeded-kept, kept-not-lost as guard-not-lost, counts-heard, holds-recent, hits-bring-to-0, lost-state}
-use Rattle.demands.proofs.Through.{change-gives-back, change-can-be-had, through-told, led-from-start, through-cut, events-cut}
+use Rattle.demands.proofs.Through.{LedThere, change-gives-back, change-can-be-had, through-told, led-from-start, through-cut, events-cut}
+use Rattle.demands.proofs.OldRecords.{asked-alike, old-record-gives, old-record-goes-on}
 use Rattle.demands.proofs.Answers.{both-accepted}
 
 -- A verdict says kept exactly when the rows before it are passed and the set keeps the outcomes, and lost, with the job, the limit and the first job of the window, exactly as that is meant.
@@ -219,6 +222,24 @@ module _ (set b : List ℕ) (t : TableOf set b) (s : start.Started) (started : S
   pub lost-keeps-state : (q r : List Bool) → heard told ≡ q ++ (false ∷ r) → KeptBy (setOf set) q → (KeptBy (setOf set) (q ++ false ∷ []) → ⊥)
       → (g .lost ≡ true) × (walk (machineOf b) 0 q ≡ some (g .state)) × (g .outcomes ≡ recent q (longest - 1))
   lost-keeps-state = rw is-told (lost-state set b t told)
+
+  -- A record of version 1 with its last eleven outcomes, of a set whose windows have at most twelve jobs: read back, it is accepted, and after any later tells and changes an ask says of all outcomes heard, before and after, what it says of them without a change.
+  module _ (narrow : wider (suc oldCarried) (setOf set) ≡ false) (back : start.Started) (read : ReadBackAs longest carried (oldRecordOf set g) b back) where
+    led : LedThere set b t g
+    led = rw is-told (led-from-start set b t told)
+
+    pub old-record-accepted : back .answer ≡ Started
+    old-record-accepted = ap (λ z. z .answer) (old-record-gives set b t g led narrow back read)
+
+    pub old-record-alike : (later : List Event) (h : Guard) → Through set b (back .guard) later h → Alike (toldAll b g (toldIn later)) h
+    old-record-alike = old-record-goes-on set b t g led narrow back read
+
+    pub old-record-answers : (later : List Event) (h : Guard) → Through set b (back .guard) later h → (r : Asked) → AskedAs b h r → ByKept (setOf set) (heard (told ++ toldIn later)) (r .answer)
+    old-record-answers later h through r asked =
+        let never = toldAll b fresh (told ++ toldIn later) in
+        let same : toldAll b g (toldIn later) ≡ never = ap (λ z. toldAll b z (toldIn later)) is-told ∙ sym (told-then b fresh told (toldIn later)) in
+        let alike = subst (λ z. Alike z h) same (old-record-alike later h through) in
+        answers-by-meaning set b t (told ++ toldIn later) (record { answer = r .answer; guard = never }) (asked-alike b never h alike r asked)
 
 -- Lost stays lost, on every table: a tell leaves it lost, in its state and with its outcomes, an ask gives it back; only start gives one that isn't, and a record that says so.
 module _ (b : List ℕ) where

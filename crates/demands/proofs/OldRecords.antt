@@ -31,7 +31,7 @@ use Rattle.guard.specs.declared.AskAnswer.the-variants as ask
 use Rattle.guard.specs.Guard.{fresh, StandingBy, AskedAs, afterBy, after, tellRows, toldWhen, toldOf, ToldAs}
 use Rattle.guard.specs.Told.{toldAll}
 use Rattle.guard.proofs.Latest.{latest-whole}
-use Rattle.guard.proofs.OneResult.{same-start, same-ask, same-tell}
+use Rattle.guard.proofs.OneResult.{same-start, ask-one-result, same-tell}
 use Rattle.carry.specs.Bytes.{oldVersion, oldCarried, carried}
 use Rattle.carry.specs.Rows.{wider, versionRows}
 use Rattle.carry.specs.Read.{ReadBackAs}
@@ -39,6 +39,8 @@ use Rattle.carry.proofs.Accepted.{not-wider-allowed}
 use Rattle.carry.proofs.OneResult.{read-back-one-result}
 use Rattle.carry.proofs.RoundTrip.{record-too-wide}
 use Rattle.carry.proofs.Back.{read-in-version}
+use Rattle.flat.specs.declared.FloeStarted.{FloeStarted}
+use Rattle.flat.specs.Flat.{FlatAnswer, flatStarted}
 use Rattle.demands.specs.TableOf.{TableOf}
 use Rattle.demands.specs.Carrying.{Event, Through, toldIn, withLast, oldRecordOf, Alike}
 use Rattle.demands.proofs.Tables.{canonical-machine, made-accepted, made-allowed, made-canonical, made-checked, made-walk, made-walks-kept}
@@ -92,10 +94,14 @@ module _ (b : List ℕ) where
   stands-alike miss g os (ask.Refused n v) s = s
 
   module _ (g g′ : Guard) (a : Alike g g′) where
+    -- an ask of the one is an ask of the other
+    pub asked-alike : (r : Asked) → AskedAs b g′ r → AskedAs b g (record { answer = r .answer; guard = g })
+    asked-alike r asked =
+        let q = subst (λ z. AskedAs b z r) (sym (same-but g g′ a)) asked in
+        record { refusal = q .refusal; answer = stands-alike _ g (g′ .outcomes) (r .answer) (q .answer); guard = refl }
+
     pub alike-asked : (r r′ : Asked) → AskedAs b g r → AskedAs b g′ r′ → r .answer ≡ r′ .answer
-    alike-asked r r′ asked asked′ =
-        let q = subst (λ z. AskedAs b z r′) (sym (same-but g g′ a)) asked′ in
-        same-ask _ g (r .answer) (r′ .answer) (asked .refusal ∙ sym (q .refusal)) (asked .answer) (stands-alike _ g (g′ .outcomes) (r′ .answer) (q .answer))
+    alike-asked r r′ asked asked′ = ap (λ z. z .answer) (ask-one-result b g r (record { answer = r′ .answer; guard = g }) asked (asked-alike r′ asked′))
 
     pub alike-tells : (byte : ℕ) (r r′ : Told) → ToldAs b g byte r → ToldAs b g′ byte r′ → (r .answer ≡ r′ .answer) × Alike (r .guard) (r′ .guard)
     alike-tells byte r r′ told told′ =
@@ -166,6 +172,13 @@ module _ (set b : List ℕ) (t : TableOf set b) (g : Guard) (led : LedThere set 
         let from-again = subst (λ z. Through set b z later h) (ap (λ z. z .guard) (old-record-gives back read)) run in
         subst (Alike (toldAll b g (toldIn later))) (sym (through-told set b t again led-again later h from-again))
         (alike-told-all b g again (record { state = refl; lost = refl; count = refl }) (toldIn later))
+
+-- The boundary.
+pub floe-old-record-gives : (set b : List ℕ) (t : TableOf set b) (g : Guard) → LedThere set b t g → wider (suc oldCarried) (setOf set) ≡ false
+    → (f : FloeStarted) → FlatAnswer (ReadBackAs longest carried (oldRecordOf set g) b) flatStarted f → (f .refused ≡ 0) × Alike g (f .guard)
+floe-old-record-gives set b t g led narrow f (back, read, e) =
+    let same = e ∙ ap flatStarted (old-record-gives set b t g led narrow back read) in
+    (ap (λ z. z .refused) same, subst (Alike g) (sym (ap (λ z. z .guard) same)) (record { state = refl; lost = refl; count = refl }))
 
 -- A set with a wider window: refused by 20, on every table.
 pub old-record-too-wide : (set b : List ℕ) (g : Guard) → first (setRows longest set) ≡ passed → wider (suc oldCarried) (setOf set) ≡ true → length (withLast oldCarried g .outcomes) ≡ oldCarried
