@@ -32,7 +32,7 @@ shared-slice-read-result : tie.Need-shared-slice-read-result
 shared-slice-read-result c =
     let p = c .before .before in
     let s = p .before .before in
-    omega (arith, s .pre .0 .no-greater (p .push-index .result) (p .push-index .ensures .1), s .pre .0 .room, s .pre .0 .fits)
+    omega (arith, s .pre .0 .no-greater (p .push-index .result) (p .push-index .ensures .1), s .pre .0 .room)
 
 returns : tie.Need-returns
 returns c =

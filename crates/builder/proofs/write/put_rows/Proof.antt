@@ -37,7 +37,7 @@ mul-history-2 : tie.Need-mul-history-2 Inv-loop μ-loop
 mul-history-2 c = search needs
 
 shared-slice-read-history : tie.Need-shared-slice-read-history Inv-loop μ-loop
-shared-slice-read-history c = let s = c .before .before .before .before .before in omega (arith, s .pre .0 .entries .room, s .pre .0 .entries .fits, s .pre .0 .no-more)
+shared-slice-read-history c = let s = c .before .before .before .before .before in omega (arith, s .pre .0 .entries .room, s .pre .0 .no-more)
 
 cast-history : tie.Need-cast-history Inv-loop μ-loop
 cast-history c = omega (arith, c .shared-slice-known2 .given (3 * c .before .before .before .before .before .args .n + c .before .before .loop .i))
