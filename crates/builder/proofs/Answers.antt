@@ -15,11 +15,12 @@ use Rattle.meaning.specs.Sets.{KeptBy}
 use Rattle.sets.specs.Bytes.{setOf}
 use Rattle.sets.specs.Rows.{setRows}
 use Rattle.table.specs.Bytes.{bytesOf, sizeOf}
+use Rattle.history.specs.Length.{Histories}
 use Rattle.classes.specs.Area.{areaSize, Within}
 use Rattle.builder.specs.declared.BuildAnswer.{BuildAnswer}
 use Rattle.builder.specs.declared.BuildAnswer.the-variants.{Built, Refused}
 use Rattle.builder.specs.Build.{areaRow, earlyRows, ClearedTo, Cleared, WorkAfter, tableWhen, BuiltAs}
-use Rattle.builder.specs.Steps.{Histories, BuildsTable}
+use Rattle.builder.specs.Steps.{BuildsTable}
 use Rattle.builder.proofs.Windows.{area-suffices}
 
 -- what the histories of a set took is cleared with the rest of the area

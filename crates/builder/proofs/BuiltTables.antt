@@ -19,6 +19,7 @@ use Rattle.machines.proofs.Fewest.{canonical-fewest}
 use Rattle.meaning.specs.declared.LimitSet.{LimitSet}
 use Rattle.meaning.specs.Longest.{longest}
 use Rattle.meaning.specs.Sets.{SetAllowed, KeptBy}
+use Rattle.meaning.proofs.Widths.{some-window}
 use Rattle.meaning.proofs.SetLaws.{kept-by-hit}
 use Rattle.history.specs.Machine.{historyMachine}
 use Rattle.history.proofs.Walked.{kept-walked}
@@ -32,7 +33,6 @@ use Rattle.table.specs.Writable.{Writable}
 use Rattle.table.proofs.Bytes.{machine-of-bytes, bytes-checked, bytes-length}
 use Rattle.builder.specs.declared.BuildAnswer.the-variants.{Built}
 use Rattle.builder.specs.Build.{areaRow, earlyRows, buildRows, tableWhen, BuiltAs}
-use Rattle.builder.proofs.Windows.{some-window}
 
 module _ (widest : ℕ) (s : LimitSet) (ok : SetAllowed widest s) (m : Machine) (canonical : Canonical m (KeptBy s)) where
   abbrev source : Machine

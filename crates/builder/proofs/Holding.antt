@@ -10,6 +10,7 @@ use Rattle.meaning.specs.declared.LimitSet.{LimitSet}
 use Rattle.meaning.specs.Sets.{KeptBy}
 use Rattle.history.specs.Machine.{historyMachine}
 use Rattle.history.proofs.Walked.{kept-walked}
+use Rattle.history.specs.Length.{LongEnough, Histories}
 use Rattle.classes.specs.Area.{used, high, Within}
 use Rattle.classes.specs.Classed.{Classed}
 use Rattle.classes.proofs.Keeping.{within-trans}
@@ -17,9 +18,9 @@ use Rattle.numbering.specs.Numbered.{numberedMachine}
 use Rattle.numbering.specs.Work.{NumberedFrom}
 use Rattle.numbering.proofs.Classes.{classed-kept}
 use Rattle.numbering.proofs.OneResult.{numbered-canonical}
-use Rattle.builder.specs.Steps.{Reaches, Histories, Held}
+use Rattle.builder.specs.Steps.{Held}
 
-module _ (s : LimitSet) (m : ℕ) (reach : Reaches s m) (w₀ w w′ : List ℕ) (count : ℕ) (classed : Classed s m w) where
+module _ (s : LimitSet) (m : ℕ) (reach : LongEnough s m) (w₀ w w′ : List ℕ) (count : ℕ) (classed : Classed s m w) where
   -- with the number of histories written as a power
   held-power : 2 ^ m ≤ high → 1 ≤ 2 ^ m → used (2 ^ m) ≤ length w₀ → Within (2 ^ m) w₀ w → NumberedFrom (2 ^ m) w w′ count → Held s (2 ^ m) w₀ w′ count
   held-power fits positive room first numbered =

@@ -1,29 +1,19 @@
 -- What each step of the builder leaves.
 use mathlib.Core.Path.{_≡_}
 use mathlib.Core.List.{List, [], _∷_}
-use Prim.Native.Nat.{ℕ, suc, _^_, _≤_, _<_}
+use Prim.Native.Nat.{ℕ, _^_, _≤_}
 use Rattle.layout.specs.Refusal.{first}
 use Rattle.layout.specs.Write.{roomRow, lengthWhen}
 use Rattle.machines.specs.Machine.{Machine}
 use Rattle.machines.specs.Canonical.{Canonical}
 use Rattle.meaning.specs.declared.LimitSet.{LimitSet}
-use Rattle.meaning.specs.Sets.{SetAllowed, KeptBy}
+use Rattle.meaning.specs.Sets.{KeptBy}
 use Rattle.table.specs.Bytes.{sizeOf}
 use Rattle.classes.specs.Area.{high, Within}
 use Rattle.numbering.specs.Numbered.{numberedMachine}
 use Rattle.builder.specs.declared.BuildAnswer.{BuildAnswer}
 use Rattle.builder.specs.Rows.{Writable}
 use Rattle.builder.specs.Build.{says, lengthOf, Cleared, tableWhen}
-
--- histories of m outcomes are long enough for every limit of the set, and shorter than every window that it is allowed under
-pub record Reaches (s : LimitSet) (m : ℕ) : Type 0 where
-  pub short : (widest : ℕ) → SetAllowed widest s → m < widest
-  pub enough : SetAllowed (suc m) s
-
-pub record Histories (m n : ℕ) : Type 0 where
-  pub power : n ≡ 2 ^ m
-  pub some-history : 1 ≤ n
-  pub fits : n ≤ high
 
 -- the work area holds the canonical machine of the set
 pub record Held (s : LimitSet) (n : ℕ) (w w′ : List ℕ) (count : ℕ) : Type 0 where

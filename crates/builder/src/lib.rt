@@ -8,9 +8,10 @@ ghost use lib.ListN.{length};
 ghost use Rattle.machines.specs.Machine.{Machine};
 ghost use Rattle.meaning.specs.Longest.{longest};
 ghost use Rattle.meaning.specs.Sets.{SetAllowed};
+ghost use Rattle.history.specs.Length.{LongEnough, Histories};
 ghost use Rattle.classes.specs.Area.{used, areaSize};
 ghost use Rattle.builder.specs.Build.{ClearedTo, BuiltAs};
-ghost use Rattle.builder.specs.Steps.{Reaches, Histories, Held, BuildsTable};
+ghost use Rattle.builder.specs.Steps.{Held, BuildsTable};
 use meaning::LimitSet;
 
 pub enum BuildAnswer {
@@ -26,35 +27,9 @@ fn area_size(widest: u8) -> usize
     4 << (widest - 1)
 }
 
-// The length of histories that the set's own longest window asks for.
-fn history_length(set: LimitSet) -> usize
-    requires { ⌜ SetAllowed longest set ⌝ }
-    ensures { λ r. ⌜ Reaches set r ⌝ }
-{
-    let count = set.count;
-    let mut length = 0;
-    let mut i = 0;
-    while i < count {
-        let limit = set.limits[i];
-        let asked = history::reach(limit);
-        if length < asked {
-            length = asked;
-        }
-        i += 1;
-    }
-    length
-}
-
-fn histories(m: usize) -> usize
-    requires { ⌜ m ≤ longest - 1 ⌝ }
-    ensures { λ r. ⌜ Histories m r ⌝ }
-{
-    1 << m
-}
-
 // Finds the set's states and numbers them in the work area; returns how many they are.
 fn number_states(set: LimitSet, m: usize, n: usize, work: &mut [u16]) -> usize
-    requires { ⌜ SetAllowed longest set × Reaches set m × Histories m n × (used n ≤ length (now work)) ⌝ }
+    requires { ⌜ SetAllowed longest set × LongEnough set m × Histories m n × (used n ≤ length (now work)) ⌝ }
     ensures { λ r. ⌜ Held set n (now (work .entry)) (now (work .exit)) r ⌝ }
 {
     classes::classes(set, m, n, work);
@@ -75,8 +50,8 @@ fn build_table(set: LimitSet, widest: u8, work: &mut [u16], table: &mut [u8]) ->
     ensures { λ r. ⌜ ((m : Machine) × BuildsTable widest set (now (work .entry)) (now (work .exit)) (now (table .entry)) (now (table .exit)) r m) ⌝ }
 {
     let area = area_size(widest);
-    let m = history_length(set);
-    let n = histories(m);
+    let m = history::length_for(set);
+    let n = history::count_of(m);
     let count = number_states(set, m, n, work);
     let size = 7 + 4 * count;
     if table.len() < size {

@@ -57,7 +57,7 @@ module _ (s : LimitSet) (j : ℕ) (ok : SetAllowed (suc (suc j)) s) (h : ℕ) (s
   newest-is : (o : Bool) → eqb (h % 2) 1 ≡ o → outcomesOf (suc j) h ≡ rest ++ o ∷ []
   newest-is o e = outcomes-suc j h ∙ ap {B = List Bool} (λ z. rest ++ z ∷ []) e
 
-  pub back-hit : (h % 2 ≡ 0 → ⊥) → KeptBy s (outcomesOf (suc j) h) ↔ KeptBy s (outcomesOf (suc j) (h / 2 + 2 ^ j))
+  back-hit : (h % 2 ≡ 0 → ⊥) → KeptBy s (outcomesOf (suc j) h) ↔ KeptBy s (outcomesOf (suc j) (h / 2 + 2 ^ j))
   back-hit n =
       let o : h % 2 ≡ 1 = omega arith in
       let e = newest-is true (eq-eqb (h % 2) 1 o) in (
@@ -68,18 +68,39 @@ module _ (s : LimitSet) (j : ℕ) (ok : SetAllowed (suc (suc j)) s) (h : ℕ) (s
   miss-is : h % 2 ≡ 0 → outcomesOf (suc j) h ≡ rest ++ false ∷ []
   miss-is z = newest-is false (ne-eqb (h % 2) 1 (λ o. omega arith))
 
-  pub back-miss : h % 2 ≡ 0 → mayMiss s (h / 2 + 2 ^ j) ≡ true → KeptBy s (outcomesOf (suc j) h) ↔ KeptBy s (outcomesOf (suc j) (h / 2 + 2 ^ j))
+  back-miss : h % 2 ≡ 0 → mayMiss s (h / 2 + 2 ^ j) ≡ true → KeptBy s (outcomesOf (suc j) h) ↔ KeptBy s (outcomesOf (suc j) (h / 2 + 2 ^ j))
   back-miss z t =
       let e = miss-is z in (
         λ k. rest-kept .1 (kept-by-prefix s rest (false ∷ []) (subst (λ z. KeptBy s z) e k)),
         λ k. subst (λ z. KeptBy s z) (sym e) (may-miss-kept (suc j) rest s ok (rest-kept .0 k) .0 (T-of _ (ap (mayMiss s) before-history ∙ t))),
       )
 
-  pub back-blocked : h % 2 ≡ 0 → mayMiss s (h / 2 + 2 ^ j) ≡ false → KeptBy s (outcomesOf (suc j) h) → ⊥
+  back-blocked : h % 2 ≡ 0 → mayMiss s (h / 2 + 2 ^ j) ≡ false → KeptBy s (outcomesOf (suc j) h) → ⊥
   back-blocked z f k =
       let n : KeptBy s (rest ++ false ∷ []) = subst (λ z. KeptBy s z) (miss-is z) k in
       let t = may-miss-kept (suc j) rest s ok (kept-by-prefix s rest (false ∷ []) n) .1 n in
       subst (λ z. T z) (ap (mayMiss s) before-history ∙ f) t
+
+-- the same of the `all` histories of m outcomes, where a miss is left in one: then m isn't 0
+pub record WalkedBack (s : LimitSet) (m all h : ℕ) : Type 0 where
+  pub within : h / 2 + all / 2 < 2 ^ m
+  pub more : h < h / 2 + all / 2
+  pub hit : (h % 2 ≡ 0 → ⊥) → KeptBy s (outcomesOf m h) ↔ KeptBy s (outcomesOf m (h / 2 + all / 2))
+  pub miss : h % 2 ≡ 0 → mayMiss s (h / 2 + all / 2) ≡ true → KeptBy s (outcomesOf m h) ↔ KeptBy s (outcomesOf m (h / 2 + all / 2))
+  pub blocked : h % 2 ≡ 0 → mayMiss s (h / 2 + all / 2) ≡ false → KeptBy s (outcomesOf m h) → ⊥
+
+pub walked-back : (s : LimitSet) (m : ℕ) → SetAllowed (suc m) s → (all h : ℕ) → all ≡ 2 ^ m → h < 2 ^ m → (h + 1 ≡ all → ⊥) → WalkedBack s m all h
+walked-back s zero ok all h e small n = absurd (n (omega arith))
+walked-back s (suc j) ok all h e small n =
+    let p = pow-suc 2 j in
+    let half : 2 ^ j ≡ all / 2 = omega arith in
+    record {
+      within = omega arith;
+      more = omega arith;
+      hit = subst (λ k. (h % 2 ≡ 0 → ⊥) → KeptBy s (outcomesOf (suc j) h) ↔ KeptBy s (outcomesOf (suc j) (h / 2 + k))) half (back-hit s j ok h small);
+      miss = subst (λ k. h % 2 ≡ 0 → mayMiss s (h / 2 + k) ≡ true → KeptBy s (outcomesOf (suc j) h) ↔ KeptBy s (outcomesOf (suc j) (h / 2 + k))) half (back-miss s j ok h small);
+      blocked = subst (λ k. h % 2 ≡ 0 → mayMiss s (h / 2 + k) ≡ false → KeptBy s (outcomesOf (suc j) h) → ⊥) half (back-blocked s j ok h small);
+    }
 
 -- the history of hits alone is kept
 pub all-hits-kept : (s : LimitSet) (m : ℕ) → SetAllowed (suc m) s → (h : ℕ) → h + 1 ≡ 2 ^ m → KeptBy s (outcomesOf m h)

@@ -4,7 +4,7 @@ ghost use mathlib.Core.Path.{_≡_};
 ghost use mathlib.Core.Logic.{_↔_};
 ghost use mathlib.Core.Bool.{true, false};
 ghost use mathlib.Core.List.{[], _∷_, _++_};
-ghost use Prim.Native.Nat.{_-_, _^_, _≤_, _<_};
+ghost use Prim.Native.Nat.{suc, _^_, _≤_, _<_};
 ghost use Rattle.meaning.specs.Longest.{longest};
 ghost use Rattle.meaning.specs.Sets.{SetAllowed, KeptBy};
 ghost use Rattle.compare.specs.Compare.{packed, refusedFor, Compares, ComparedAs};
@@ -29,14 +29,15 @@ pub struct Compared {
     pub pattern: Pattern,
 }
 
-// Whether the set keeps the outcomes of a history, walked back from the newest to the oldest miss.
-fn keeps(set: LimitSet, history: u16) -> bool
-    requires { ⌜ SetAllowed longest set × (history < 2 ^ (longest - 1)) ⌝ }
-    ensures { λ r. ⌜ (r ≡ true) ↔ KeptBy set (outcomesOf (longest - 1) history) ⌝ }
+// Whether the set keeps the outcomes of a history of m outcomes, walked back from the newest to the oldest miss.
+fn keeps(set: LimitSet, m: usize, history: u16) -> bool
+    requires { ⌜ (m < longest) × SetAllowed (suc m) set × (history < 2 ^ m) ⌝ }
+    ensures { λ r. ⌜ (r ≡ true) ↔ KeptBy set (outcomesOf m history) ⌝ }
 {
+    let all = history::count_of(m) as u16;
     let mut rest = history;
-    while rest != history::ALL_HITS {
-        let before = rest / 2 + (history::ALL_HITS + 1) / 2;
+    while rest != all - 1 {
+        let before = rest / 2 + all / 2;
         if rest % 2 == 0 {
             if !history::may_miss(set, before) {
                 return false;
@@ -48,9 +49,9 @@ fn keeps(set: LimitSet, history: u16) -> bool
 }
 
 // Whether, after the outcomes of a history, the first set keeps one more miss and the second doesn't.
-fn splits(first: LimitSet, second: LimitSet, history: u16) -> bool
-    requires { ⌜ SetAllowed longest first × SetAllowed longest second × (history < 2 ^ (longest - 1)) ⌝ }
-    ensures { λ r. ⌜ (r ≡ true) ↔ Splits first second (longest - 1) history ⌝ }
+fn splits(first: LimitSet, second: LimitSet, m: usize, history: u16) -> bool
+    requires { ⌜ (m < longest) × SetAllowed (suc m) first × SetAllowed (suc m) second × (history < 2 ^ m) ⌝ }
+    ensures { λ r. ⌜ (r ≡ true) ↔ Splits first second m history ⌝ }
 {
     if !history::may_miss(first, history) {
         return false;
@@ -58,17 +59,17 @@ fn splits(first: LimitSet, second: LimitSet, history: u16) -> bool
     if history::may_miss(second, history) {
         return false;
     }
-    keeps(first, history)
+    keeps(first, m, history)
 }
 
 // The lowest history from `low` on that splits the sets, or `high` where there is none below it.
-fn scan(first: LimitSet, second: LimitSet, low: u16, high: u16) -> u16
-    requires { ⌜ SetAllowed longest first × SetAllowed longest second × (low ≤ high) × (high ≤ 2 ^ (longest - 1)) ⌝ }
-    ensures { λ r. ⌜ Scanned first second (longest - 1) low high r ⌝ }
+fn scan(first: LimitSet, second: LimitSet, m: usize, low: u16, high: u16) -> u16
+    requires { ⌜ (m < longest) × SetAllowed (suc m) first × SetAllowed (suc m) second × (low ≤ high) × (high ≤ 2 ^ m) ⌝ }
+    ensures { λ r. ⌜ Scanned first second m low high r ⌝ }
 {
     let mut history = low;
     while history < high {
-        if splits(first, second, history) {
+        if splits(first, second, m, history) {
             return history;
         }
         history += 1;
@@ -104,18 +105,32 @@ fn no_pattern() -> Pattern
     }
 }
 
+// The length of histories that is enough for both sets.
+fn length_for_both(first: LimitSet, second: LimitSet) -> usize
+    requires { ⌜ SetAllowed longest first × SetAllowed longest second ⌝ }
+    ensures { λ r. ⌜ (r < longest) × SetAllowed (suc r) first × SetAllowed (suc r) second ⌝ }
+{
+    let one = history::length_for(first);
+    let other = history::length_for(second);
+    if one < other {
+        return other;
+    }
+    one
+}
+
 // Histories in the order of their patterns: those whose oldest miss is the newest outcome, the one before it, ..
 // Each has the same length, so within them the lower number is the earlier pattern.
 fn search(first: LimitSet, second: LimitSet) -> Compared
     requires { ⌜ SetAllowed longest first × SetAllowed longest second ⌝ }
     ensures { λ r. ⌜ Compares first second r ⌝ }
 {
-    let all = history::ALL_HITS + 1;
-    let mut low = history::ALL_HITS;
+    let m = length_for_both(first, second);
+    let all = history::count_of(m) as u16;
+    let mut low = all - 1;
     let mut high = all;
     let mut n = 0;
     loop {
-        let found = scan(first, second, low, high);
+        let found = scan(first, second, m, low, high);
         if found < high {
             return Compared {
                 answer: CompareAnswer::Between,

@@ -10,6 +10,7 @@ use Rattle.machines.specs.Canonical.{Canonical, OneTable}
 use Rattle.machines.proofs.Walk.{one-walk}
 use Rattle.meaning.specs.Longest.{longest}
 use Rattle.meaning.specs.Sets.{SetAllowed, KeptBy}
+use Rattle.meaning.proofs.Widths.{set-wider}
 use Rattle.sets.specs.Bytes.{setOf}
 use Rattle.sets.specs.Rows.{setRows}
 use Rattle.sets.proofs.Accepted.{accepted-head, passed-rows}
@@ -17,7 +18,6 @@ use Rattle.table.specs.Bytes.{machineOf, bytesOf}
 use Rattle.table.specs.Rows.{tableRows}
 use Rattle.table.proofs.Checked.{checked-well-made}
 use Rattle.builder.proofs.BuiltTables.{built-accepted, built-allowed, built-canonical, built-bytes, built-checked, built-one-table}
-use Rattle.builder.proofs.Windows.{set-wider}
 use Rattle.demands.specs.TableOf.{TableOf}
 
 module _ (set b : List ℕ) (t : TableOf set b) where

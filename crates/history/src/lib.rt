@@ -1,6 +1,6 @@
 // The history machine of a set: its state is the last outcomes in a number, the newest in the low bit.
 // A hit is always possible; whether a miss is, this crate says from the history alone, limit by limit.
-// How long a history has to be for a limit, `reach` says, and how far back the earliest window begins that a miss breaks, `broken_reach`.
+// How long a history has to be, `reach` says for a limit and `length_for` for a set, and how far back the earliest window begins that a miss breaks, `broken_reach`.
 ghost use mathlib.Core.Path.{_≡_};
 ghost use mathlib.Core.Bool.{true, false, cond};
 ghost use Prim.Native.Nat.{ℕ, _+_, _-_, _%_, _^_, _≤_, _<_};
@@ -13,6 +13,7 @@ ghost use Rattle.meaning.specs.Test.{hasRun};
 ghost use Rattle.history.specs.History.{shifted, newest};
 ghost use Rattle.history.specs.MayMiss.{mayMissUnder, mayMiss, Blocks};
 ghost use Rattle.history.specs.Reaches.{Reaches};
+ghost use Rattle.history.specs.Length.{LongEnough, Histories};
 use meaning::Limit;
 use meaning::LimitSet;
 
@@ -131,6 +132,33 @@ pub fn reach(limit: Limit) -> usize
         return (limit.x - 1) as usize;
     }
     (limit.k - 1) as usize
+}
+
+// The length of histories that the set's own widest window asks for.
+pub fn length_for(set: LimitSet) -> usize
+    requires { ⌜ SetAllowed longest set ⌝ }
+    ensures { λ r. ⌜ LongEnough set r ⌝ }
+{
+    let count = set.count;
+    let mut length = 0;
+    let mut at = 0;
+    while at < count {
+        let limit = set.limits[at];
+        let asked = reach(limit);
+        if length < asked {
+            length = asked;
+        }
+        at += 1;
+    }
+    length
+}
+
+// How many histories of m outcomes there are.
+pub fn count_of(m: usize) -> usize
+    requires { ⌜ m < longest ⌝ }
+    ensures { λ r. ⌜ Histories m r ⌝ }
+{
+    1 << m
 }
 
 // The length of a run of hits after one more outcome: a miss ends it.

@@ -1,11 +1,11 @@
--- What allowed numbers say of windows: that of a limit has at least one job and no more than the longest, and a set stays allowed where the longest is cut down to its own widest. Assumes nothing.
+-- What allowed numbers say of windows: that of a limit has at least one job and no more than the longest, and a set stays allowed where the longest is cut down to its own widest, or raised. Assumes nothing.
 use mathlib.Core.Path.{_≡_, refl, ap, subst}
 use Prim.Native.Nat.{ℕ, zero, suc, _≤_, _<_}
 use native.Mathlib.Omega.{arith}
 use Rattle.meaning.specs.declared.Limit.{Limit}
 use Rattle.meaning.specs.declared.LimitSet.{LimitSet}
 use Rattle.meaning.specs.Limit.{Rule, AnyHit, RowHit, AnyMiss, RowMiss, Allowed, RuleAllowed, ruleFrom, ruleOf, width}
-use Rattle.meaning.specs.Sets.{SetAllowed, limitAt}
+use Rattle.meaning.specs.Sets.{SetAllowed, limitAt, ruleAt}
 
 -- the numbers of an allowed limit and its window: of the first three kinds, and of the fourth
 pub allowed-numbers : (w : ℕ) (l : Limit) → Allowed w l → l .kind ≤ 2 → (1 ≤ l .k) × (l .k ≤ w) × (l .x ≤ l .k)
@@ -55,3 +55,10 @@ set-narrower w v s a h = record {
     k-unused = a .each i l .k-unused;
   };
 }
+
+-- a longest window that a set is allowed under has a job at least, and a longer one allows the set too
+pub some-window : (w : ℕ) (s : LimitSet) → SetAllowed w s → 1 ≤ w
+some-window w s a = omega (arith, width-allowed w (ruleAt s 0) (a .each 0 (a .some-limit) .rule-allowed))
+
+pub set-wider : (w v : ℕ) (s : LimitSet) → w ≤ v → SetAllowed w s → SetAllowed v s
+set-wider w v s h a = set-narrower w v s a (λ i l. omega (arith, width-allowed w (ruleAt s i) (a .each i l .rule-allowed)))

@@ -9,7 +9,7 @@ ghost use Rattle.table.specs.Rows.{countRows, entryRows, entriesRows};
 ghost use Rattle.table.specs.Check.{says, Counts, CheckedAs, lookSays, Shows, LookedAs};
 
 // The most states that a table may have.
-pub const MOST_STATES: usize = 32768;
+const MOST_STATES: usize = 32768;
 
 // What stands for a next state on a miss that isn't allowed.
 pub const NO_MISS: u16 = 65535;

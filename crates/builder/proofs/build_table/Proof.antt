@@ -2,8 +2,9 @@
 use native.Mathlib.Omega.{arith}
 use borrow.Author.Needs.{needs}
 use Rattle.meaning.specs.Longest.{longest}
+use Rattle.meaning.proofs.Widths.{set-wider}
 use Rattle.numbering.specs.Numbered.{numberedMachine}
-use Rattle.builder.proofs.Windows.{set-wider, area-suffices}
+use Rattle.builder.proofs.Windows.{area-suffices}
 use Rattle.builder.proofs.Answers.{clear-within, short-table, whole-table}
 use Rattle.builder.proofs.build_table.Statement.{statement}
 use Rattle.builder.proofs.build_table.Tie as tie
@@ -11,15 +12,15 @@ use Rattle.builder.proofs.build_table.Tie as tie
 area-size-requires : tie.Need-area-size-requires
 area-size-requires c κs = search needs
 
-history-length-requires : tie.Need-history-length-requires
-history-length-requires c κs =
+length-for-requires : tie.Need-length-for-requires
+length-for-requires c κs =
     let s = c .before .before .before in
     set-wider (s .args .widest) longest (s .args .set) (s .pre .1) (s .pre .2)
 
-histories-requires : tie.Need-histories-requires
-histories-requires c κs =
+count-of-requires : tie.Need-count-of-requires
+count-of-requires c κs =
     let s = c .before .before .before .before in
-    omega (arith, s .pre .1, c .history-length .ensures .short (s .args .widest) (s .pre .2))
+    omega (arith, s .pre .1, c .length-for .ensures .short (s .args .widest) (s .pre .2))
 
 number-states-requires : tie.Need-number-states-requires
 number-states-requires c κs =
@@ -28,9 +29,9 @@ number-states-requires c κs =
     let s = l .before .before .before .before in
     let w = s .args .widest in (
       set-wider w longest (s .args .set) (s .pre .1) (s .pre .2),
-      l .history-length .ensures,
-      h .histories .ensures,
-      omega (arith, s .pre .3, area-suffices w _ _ (h .histories .ensures) (l .history-length .ensures .short w (s .pre .2))),
+      l .length-for .ensures,
+      h .count-of .ensures,
+      omega (arith, s .pre .3, area-suffices w _ _ (h .count-of .ensures) (l .length-for .ensures .short w (s .pre .2))),
     )
 
 mul-size : tie.Need-mul-size
@@ -54,11 +55,11 @@ returns c =
     let a = l .before in
     let s = a .before .before .before in
     let w = h .number-states .last .1 .1 .1 .0 in
-    let m = numberedMachine (n .histories .result) w (h .number-states .result) in (
+    let m = numberedMachine (n .count-of .result) w (h .number-states .result) in (
       m,
       short-table (s .args .widest) (s .args .set) (s .args .work .now) (k .clear .last .0) (s .args .table .now) m (h .number-states .ensures .canonical)
-          (clear-within (s .args .widest) (l .history-length .result) (n .histories .result) (a .area-size .result) (s .args .work .now) w (k .clear .last .0) (a .area-size .ensures)
-          (n .histories .ensures) (l .history-length .ensures .short (s .args .widest) (s .pre .2)) (h .number-states .ensures .within) (k .clear .ensures)) (k .before .before .if1 .taken),
+          (clear-within (s .args .widest) (l .length-for .result) (n .count-of .result) (a .area-size .result) (s .args .work .now) w (k .clear .last .0) (a .area-size .ensures)
+          (n .count-of .ensures) (l .length-for .ensures .short (s .args .widest) (s .pre .2)) (h .number-states .ensures .within) (k .clear .ensures)) (k .before .before .if1 .taken),
     )
 
 write-table-requires : tie.Need-write-table-requires
@@ -84,11 +85,11 @@ returns-2 c =
     let a = l .before in
     let s = a .before .before .before in
     let w = h .number-states .last .1 .1 .1 .0 in
-    let m = numberedMachine (n .histories .result) w (h .number-states .result) in (
+    let m = numberedMachine (n .count-of .result) w (h .number-states .result) in (
       m,
       whole-table (s .args .widest) (s .args .set) (s .args .work .now) (k .clear2 .last .0) (s .args .table .now) m (h .number-states .ensures .canonical)
-          (clear-within (s .args .widest) (l .history-length .result) (n .histories .result) (a .area-size .result) (s .args .work .now) w (k .clear2 .last .0) (a .area-size .ensures)
-          (n .histories .ensures) (l .history-length .ensures .short (s .args .widest) (s .pre .2)) (h .number-states .ensures .within) (k .clear2 .ensures)) _ (i .if1 .left) (t .write-table .ensures),
+          (clear-within (s .args .widest) (l .length-for .result) (n .count-of .result) (a .area-size .result) (s .args .work .now) w (k .clear2 .last .0) (a .area-size .ensures)
+          (n .count-of .ensures) (l .length-for .ensures .short (s .args .widest) (s .pre .2)) (h .number-states .ensures .within) (k .clear2 .ensures)) _ (i .if1 .left) (t .write-table .ensures),
     )
 
 pub build-table-spec : {M : Type 1} → statement M
@@ -96,8 +97,8 @@ build-table-spec =
     tie.close
     (tie.spec
     area-size-requires
-    history-length-requires
-    histories-requires
+    length-for-requires
+    count-of-requires
     number-states-requires
     mul-size
     add-size

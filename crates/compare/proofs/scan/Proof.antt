@@ -6,17 +6,16 @@ use Prim.Native.Nat.{ℕ, _≤_, _<_, _-_}
 use native.Mathlib.Decide.{decLt}
 use native.Mathlib.Omega.{arith}
 use borrow.Author.Needs.{needs}
-use Rattle.meaning.specs.Longest.{longest}
 use Rattle.compare.specs.Splits.{Splits}
 use Rattle.compare.proofs.scan.Statement.{statement}
 use Rattle.compare.proofs.scan.Tie as tie
 
 abbrev Inv-loop : tie.InvT-loop
-Inv-loop first second low high history₀ history =
-    (low ≤ history) × (history ≤ high) × ((h : ℕ) → low ≤ h → h < history → Splits first second (longest - 1) h → ⊥)
+Inv-loop first second m low high history₀ history =
+    (low ≤ history) × (history ≤ high) × ((h : ℕ) → low ≤ h → h < history → Splits first second m h → ⊥)
 
 abbrev μ-loop : tie.MeasureT-loop
-μ-loop first second low high history₀ history = high - history
+μ-loop first second m low high history₀ history = high - history
 
 loop-holds : tie.Need-loop-holds Inv-loop μ-loop
 loop-holds c = (omega arith, omega arith, λ h l g. absurd (omega arith))
@@ -48,7 +47,7 @@ loop-again c =
       omega arith,
       λ h from below. dite (decLt h (l .history)) (λ lt. l .inv .2 h from lt) (λ n.
           let e : l .history ≡ h = omega arith in
-          λ s. false≢true (sym (c .if1 .left) ∙ c .before .splits .ensures .1 (subst (λ z. Splits (a .first) (a .second) (longest - 1) z) (sym e) s))),
+          λ s. false≢true (sym (c .if1 .left) ∙ c .before .splits .ensures .1 (subst (λ z. Splits (a .first) (a .second) (a .m) z) (sym e) s))),
     )
 
 returns-2 : tie.Need-returns-2 Inv-loop μ-loop

@@ -1,13 +1,16 @@
 -- `compare::splits`: the three parts of the definition, the cheap ones first. Assumes nothing.
 use mathlib.Core.Path.{sym, _∙_}
 use mathlib.Core.Bool.{false≢true, true≢false}
+use native.Mathlib.Omega.{arith}
 use borrow.Author.Needs.{needs}
 use borrow.Author.Tests.{not-true, not-false}
+use Rattle.meaning.specs.Longest.{longest}
+use Rattle.meaning.proofs.Widths.{set-wider}
 use Rattle.compare.proofs.splits.Statement.{statement}
 use Rattle.compare.proofs.splits.Tie as tie
 
 may-miss-requires : tie.Need-may-miss-requires
-may-miss-requires c κs = search needs
+may-miss-requires c κs = set-wider _ longest (c .args .first) (omega (arith, c .pre .0)) (c .pre .1)
 
 returns : tie.Need-returns
 returns c = (
@@ -16,7 +19,7 @@ returns c = (
 )
 
 may-miss-requires-2 : tie.Need-may-miss-requires-2
-may-miss-requires-2 c κs = search needs
+may-miss-requires-2 c κs = let s = c .before .before in set-wider _ longest (s .args .second) (omega (arith, s .pre .0)) (s .pre .2)
 
 returns-2 : tie.Need-returns-2
 returns-2 c = (

@@ -1,4 +1,4 @@
--- `builder::histories`: a shift of 1 is a power of 2. Assumes nothing.
+-- `history::count_of`: a shift of 1 is a power of 2. Assumes nothing.
 use mathlib.Core.Path.{_≡_, _∙_}
 use Prim.Native.Nat.{_*_, _-_, _%_, _^_}
 use native.Mathlib.Nat.{one-mul}
@@ -6,8 +6,8 @@ use native.Mathlib.Omega.{arith}
 use lib.Pow.{pow-pos, pow-mono, shl-exact}
 use borrow.Author.Needs.{needs}
 use Rattle.meaning.specs.Longest.{longest}
-use Rattle.builder.proofs.histories.Statement.{statement}
-use Rattle.builder.proofs.histories.Tie as tie
+use Rattle.history.proofs.count_of.Statement.{statement}
+use Rattle.history.proofs.count_of.Tie as tie
 
 shl-result : tie.Need-shl-result
 shl-result c = search needs
@@ -19,8 +19,8 @@ returns c =
     record {
       power = e;
       some-history = omega (arith, e, pow-pos m);
-      fits = omega (arith, e, pow-mono {i = m} {j = longest - 1} (c .pre));
+      fits = omega (arith, e, pow-mono {i = m} {j = longest - 1} (omega arith));
     }
 
-pub histories-spec : {M : Type 1} → statement M
-histories-spec = tie.close (tie.spec shl-result returns)
+pub count-of-spec : {M : Type 1} → statement M
+count-of-spec = tie.close (tie.spec shl-result returns)

@@ -1,4 +1,4 @@
--- `builder::history_length`: the limits passed ask for no more than the length so far. Assumes nothing.
+-- `history::length_for`: the limits passed ask for no more than the length so far. Assumes nothing.
 use mathlib.Core.Logic.{⊎-elim}
 use Prim.Native.Nat.{ℕ, suc, _≤_, _<_, _-_}
 use native.Mathlib.Omega.{arith}
@@ -7,17 +7,16 @@ use borrow.Author.Needs.{needs}
 use Rattle.meaning.specs.Longest.{longest}
 use Rattle.meaning.specs.Limit.{width}
 use Rattle.meaning.specs.Sets.{SetAllowed, ruleAt}
-use Rattle.meaning.proofs.Widths.{width-allowed, set-narrower}
-use Rattle.builder.proofs.Windows.{some-window}
-use Rattle.builder.proofs.history_length.Statement.{statement}
-use Rattle.builder.proofs.history_length.Tie as tie
+use Rattle.meaning.proofs.Widths.{width-allowed, set-narrower, some-window}
+use Rattle.history.proofs.length_for.Statement.{statement}
+use Rattle.history.proofs.length_for.Tie as tie
 
 abbrev Inv-loop : tie.InvT-loop
-Inv-loop set count length₀ i₀ length i =
-    (i ≤ count) × ((w : ℕ) → SetAllowed w set → length < w) × ((j : ℕ) → j < i → width (ruleAt set j) ≤ suc length)
+Inv-loop set count length₀ at₀ length at =
+    (at ≤ count) × ((w : ℕ) → SetAllowed w set → length < w) × ((j : ℕ) → j < at → width (ruleAt set j) ≤ suc length)
 
 abbrev μ-loop : tie.MeasureT-loop
-μ-loop set count length₀ i₀ length i = count - i
+μ-loop set count length₀ at₀ length at = count - at
 
 loop-holds : tie.Need-loop-holds Inv-loop μ-loop
 loop-holds c = (omega arith, (λ w a. omega (arith, some-window w (c .args .t1) a)), λ j l. absurd (omega arith))
@@ -29,10 +28,10 @@ element-copy-out-limit : tie.Need-element-copy-out-limit Inv-loop μ-loop
 element-copy-out-limit c = search needs
 
 reach-requires : tie.Need-reach-requires Inv-loop μ-loop
-reach-requires c κs = c .before .before .before .pre .each (c .before .before .loop .i) (c .before .loop-test .taken)
+reach-requires c κs = c .before .before .before .pre .each (c .before .before .loop .at) (c .before .loop-test .taken)
 
-add-i : tie.Need-add-i Inv-loop μ-loop
-add-i c = search needs
+add-at : tie.Need-add-at Inv-loop μ-loop
+add-at c = search needs
 
 loop-less : tie.Need-loop-less Inv-loop μ-loop
 loop-less c = search needs
@@ -43,8 +42,8 @@ loop-again c =
     let s = c .before .before .before .before .before in
     let t = c .before .before .before .loop-test .taken in
     let r = c .before .reach .ensures in
-    let narrow : (w : ℕ) → SetAllowed w (s .args .t1) → width (ruleAt (s .args .t1) (l .i)) ≤ w =
-    λ w a. width-allowed w (ruleAt (s .args .t1) (l .i)) (a .each (l .i) t .rule-allowed) .1 in
+    let narrow : (w : ℕ) → SetAllowed w (s .args .t1) → width (ruleAt (s .args .t1) (l .at)) ≤ w =
+    λ w a. width-allowed w (ruleAt (s .args .t1) (l .at)) (a .each (l .at) t .rule-allowed) .1 in
     ⊎-elim
     (λ w. (omega arith, (λ v a. omega (arith, narrow v a)), below-more _ _ (λ j h. let g = l .inv .2 j h in omega arith) (omega arith)))
     (λ w. (omega arith, (λ v a. omega (arith, l .inv .1 v a)), below-more _ _ (λ j h. let g = l .inv .2 j h in omega arith) (omega arith)))
@@ -59,8 +58,8 @@ returns c =
       enough = set-narrower longest (suc (l .length)) (s .args .t1) (s .pre) (λ i h. l .inv .2 i (omega arith));
     }
 
-pub history-length-spec : {M : Type 1} → statement M
-history-length-spec =
+pub length-for-spec : {M : Type 1} → statement M
+length-for-spec =
     tie.close
     (tie.spec
     Inv-loop
@@ -69,7 +68,7 @@ history-length-spec =
     mul-limit
     element-copy-out-limit
     reach-requires
-    add-i
+    add-at
     loop-less
     loop-again
     returns)
