@@ -40,10 +40,10 @@ fn of_judge() {
     let lost = judge(&ALL_KINDS, &[1, 1, 0, 1, 0]).unwrap();
     assert_eq!(lost, Verdict::Lost { job: 5, limit: 1, first: 2 });
     assert_eq!(lost.to_string(), "lost at job 5 by limit 1, in the window from job 2");
-    let all_of_12 = [0, 0, 0, 5, 1, 1, 0, 12, 12];
-    let lost = judge(&all_of_12, &[0]).unwrap();
-    assert_eq!(lost, Verdict::Lost { job: 1, limit: 0, first: -10 });
-    assert_eq!(lost.to_string(), "lost at job 1 by limit 0, in the window from job -10");
+    let all_of_16 = [0, 0, 0, 5, 1, 1, 0, 16, 16];
+    let lost = judge(&all_of_16, &[0]).unwrap();
+    assert_eq!(lost, Verdict::Lost { job: 1, limit: 0, first: -14 });
+    assert_eq!(lost.to_string(), "lost at job 1 by limit 0, in the window from job -14");
 }
 
 #[test]
@@ -60,17 +60,28 @@ fn of_compare() {
     assert_eq!(format!("{pattern:?}"), "[0, 0, 1, 1, 1, 0, 0]");
     assert_eq!(judge(&any_miss_3_of_7, &pattern), Ok(Verdict::Lost { job: 7, limit: 0, first: 1 }));
     assert_eq!(*between(&any_miss_3_of_7, &any_miss_2_of_5), [0, 0, 0]);
+    // A pattern as long as the longest window.
+    let (row_miss_16, any_miss_14_of_16) = ([0, 0, 0, 5, 1, 1, 3, 16, 0], [0, 0, 0, 5, 1, 1, 2, 14, 16]);
+    assert_eq!(*between(&row_miss_16, &any_miss_14_of_16), [0; 15]);
+    let any_miss_15_of_16 = [0, 0, 0, 5, 1, 1, 2, 15, 16];
+    assert_eq!(compare(&row_miss_16, &any_miss_15_of_16), Ok(Comparison::Covers));
+    let pattern = between(&[0, 0, 0, 5, 1, 1, 2, 2, 15], &[0, 0, 0, 5, 1, 1, 2, 2, 16]);
+    assert_eq!(*pattern, [0, 0, 1, 1, 1, 1, 1, 1, 1, 1, 1, 1, 1, 1, 1, 0]);
 }
 
 #[test]
 fn of_build_and_check() {
-    let mut work = [7; WORK_ENTRIES];
-    let mut table = [7; LONGEST_TABLE];
+    let mut work = vec![7; WORK_ENTRIES];
+    let mut table = vec![7; LONGEST_TABLE];
     let length = build(&ALL_KINDS, &mut work, &mut table).unwrap();
     assert_eq!(table[..length], TABLE);
-    assert_eq!(table[length..], [7; LONGEST_TABLE][length..]);
-    assert_eq!(work, [0; WORK_ENTRIES]);
+    assert!(table[length..].iter().all(|&byte| byte == 7));
+    assert!(work.iter().all(|&entry| entry == 0));
     assert_eq!(check_table(&table[..length]), Ok(3));
+
+    // 8 of 16: the most states that one limit has.
+    let length = build(&[0, 0, 0, 5, 1, 1, 0, 8, 16], &mut work, &mut table).unwrap();
+    assert_eq!(check_table(&table[..length]), Ok(12_870));
 }
 
 /// The guard is a value: each copy goes its own way.
