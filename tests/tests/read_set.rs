@@ -2,6 +2,7 @@
 
 use floelinnet_tests::damage::{damage, faulty_set, mend_length};
 use floelinnet_tests::draw::{cases, Draw};
+use floelinnet_tests::reference::limits::allowed_limits;
 use floelinnet_tests::reference::sets;
 use floelinnet_tests::{expected, floe};
 
@@ -19,8 +20,8 @@ fn every_single_limit_of_three_bytes() {
         let [_, kind, x, k] = number.to_be_bytes();
         seen[agree(&[0, 0, 0, 5, 1, 1, kind, x, k])] += 1;
     }
-    // The table of kinds allows 3 times 90 limits with a k, and 12 without.
-    assert_eq!(seen[0], 282);
+    // The table of kinds allows 3 times 152 limits with a k, and 16 without.
+    assert_eq!((seen[0], allowed_limits().len()), (472, 472));
     assert_eq!(seen.iter().sum::<usize>(), 1 << 24);
 }
 

@@ -143,27 +143,39 @@ fn of_records() {
             assert_eq!(length, record_size(ALL_KINDS.len()));
             assert_eq!(record[length..], [7; LONGEST_RECORD][length..]);
             assert_eq!(Guard::read_record(&record[..length], &TABLE), Ok(guard), "{pattern:?}");
+            let old = old_record(&ALL_KINDS, guard);
+            assert_eq!(old.len(), old_record_size(ALL_KINDS.len()));
+            assert_eq!(Guard::read_record(&old, &TABLE), Ok(guard), "{pattern:?}");
         }
     }
+}
+
+/// What was written of this guard before 0.7.0: version 1, and the last 11 outcomes.
+fn old_record(set: &[u8], guard: Guard) -> Vec<u8> {
+    let outcomes = guard.outcomes[HELD - 11..].iter().map(|&hit| u8::from(hit));
+    let rest: Vec<u8> = [1].into_iter().chain(set.iter().copied()).chain(outcomes).collect();
+    let tail = [&guard.count.to_be_bytes()[..], &[u8::from(guard.lost)]].concat();
+    let length = (rest.len() + tail.len()) as u32;
+    [&length.to_be_bytes()[..], &rest, &tail].concat()
 }
 
 #[test]
 fn of_a_records_bytes() {
     let one_of_two = [0, 0, 0, 5, 1, 1, 0, 1, 2];
     let guard = Guard { state: 1, lost: true, outcomes: held(&[MISS, HIT, HIT, MISS]), count: 0x0102_0304_0506_0708 };
-    let mut record = [7; 36];
-    assert_eq!(guard.write_record(&one_of_two, &mut record), Ok(34));
+    let mut record = [7; 40];
+    assert_eq!(guard.write_record(&one_of_two, &mut record), Ok(38));
     let want = [
-        &[0, 0, 0, 30, 1][..],
+        &[0, 0, 0, 34, 2][..],
         &one_of_two,
-        &[1, 1, 1, 1, 1, 1, 1, 0, 1, 1, 0],
+        &[1, 1, 1, 1, 1, 1, 1, 1, 1, 1, 1, 0, 1, 1, 0],
         &[1, 2, 3, 4, 5, 6, 7, 8],
         &[1],
         &[7, 7],
     ];
     assert_eq!(record[..], want.concat());
-    assert_eq!(record_size(0), 25);
-    assert_eq!((HELD, LONGEST_RECORD), (11, 55));
+    assert_eq!((record_size(0), old_record_size(0)), (29, 25));
+    assert_eq!((HELD, LONGEST_RECORD), (15, 59));
 }
 
 /// Every pattern of up to 10 jobs comes back from its log, and is judged there as it is without one.

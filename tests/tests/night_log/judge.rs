@@ -52,9 +52,9 @@ fn longer_logs() {
         assert_eq!(agree(&set, &log), 0);
         let verdict = as_its_outcomes(&set, &pattern, &log);
         kept += verdict.kept;
-        lost_late += u64::from(verdict.job > 12);
+        lost_late += u64::from(verdict.job > 16);
     }
-    assert!(kept > 100 && lost_late > 100, "kept {kept}, lost after job 12 {lost_late}");
+    assert!(kept > 100 && lost_late > 100, "kept {kept}, lost after job 16 {lost_late}");
 }
 
 /// A log of a year's nights: kept for long, and lost late if at all.
@@ -97,6 +97,7 @@ fn windows() {
         (Limit { kind: 1, x: 2, k: 5 }, &[0, 0, 0], 3, 0),
         (Limit { kind: 2, x: 2, k: 5 }, &[0, 0, 0, 1, 1, 1, 1], 3, -1),
         (Limit { kind: 0, x: 12, k: 12 }, &[0], 1, -10),
+        (Limit { kind: 0, x: 16, k: 16 }, &[0], 1, -14),
         // Jobs 7 to 11 lie in two bytes.
         (Limit { kind: 2, x: 1, k: 5 }, &[1, 1, 1, 1, 1, 1, 0, 1, 1, 1, 0, 0], 11, 7),
     ];
