@@ -10,6 +10,8 @@ use floelinnet_tests::reference::limits::{
 use floelinnet_tests::reference::{sets, table};
 use floelinnet_tests::{expected, floe};
 
+const SHORT: usize = 5;
+
 /// Both answers agree; gives the length of the pattern between the sets.
 fn agree(a: &[Limit], b: &[Limit], between: Between) -> usize {
     let want = expected::comparison(Ok(between));
@@ -26,10 +28,11 @@ fn agree_by_tables(a: &[Limit], b: &[Limit]) -> usize {
     agree(a, b, between_tables(&table::states(a), &table::states(b)))
 }
 
-/// All with windows of at most 6 jobs. A comparison that covers goes through all histories, however short the windows.
+/// All with windows of at most 5 jobs. A comparison that covers goes through all histories, however short the windows, so
+/// these are no quicker than others.
 #[test]
 fn every_short_limit_with_every_short_limit() {
-    let limits = limits_within(6);
+    let limits = limits_within(SHORT);
     for &a in &limits {
         for &b in &limits {
             agree_by_pages(&[a], &[b]);
@@ -37,18 +40,17 @@ fn every_short_limit_with_every_short_limit() {
     }
 }
 
-/// Each limit of a window of 7 to 16 jobs with some others, both ways.
+/// Each limit with a longer window with one that is near, both ways, and with any other.
 #[test]
 fn every_longer_limit_with_some() {
     let mut draw = Draw::new(25);
     let limits = allowed_limits();
     let mut lengths = [0; LONGEST_WINDOW + 1];
-    for &a in limits.iter().filter(|&&limit| width(limit) > 6) {
-        let near = draw.neighbour(&[a])[0];
+    for &a in limits.iter().filter(|&&limit| width(limit) > SHORT) {
         let same_window: Vec<Limit> = limits.iter().copied().filter(|&b| width(b).abs_diff(width(a)) < 2).collect();
-        for b in [near, draw.of(&same_window), draw.of(&limits)] {
+        let (near, other) = (draw.of(&same_window), draw.of(&limits));
+        for (a, b) in [(a, near), (near, a), (a, other)] {
             lengths[agree_by_tables(&[a], &[b])] += 1;
-            lengths[agree_by_tables(&[b], &[a])] += 1;
         }
     }
     assert!(lengths.iter().all(|&times| times > 0), "lengths of patterns between: {lengths:?}");
@@ -73,29 +75,29 @@ fn pair(draw: &mut Draw, longest: usize) -> (Vec<Limit>, Vec<Limit>) {
 fn random_pairs() {
     let mut draw = Draw::new(21);
     let mut lengths = [0; OLD_LONGEST_WINDOW + 1];
-    for _ in 0..cases(3_000) {
+    for _ in 0..cases(1_000) {
         let (a, b) = pair(&mut draw, OLD_LONGEST_WINDOW);
         lengths[agree_by_pages(&a, &b)] += 1;
     }
-    assert!(lengths[..12].iter().all(|&times| times > 10), "lengths of patterns between: {lengths:?}");
+    assert!(lengths[..10].iter().all(|&times| times > 3), "lengths of patterns between: {lengths:?}");
 }
 
 #[test]
 fn random_pairs_with_long_windows() {
     let mut draw = Draw::new(23);
     let mut lengths = [0; LONGEST_WINDOW + 1];
-    for _ in 0..cases(600) {
+    for _ in 0..cases(400) {
         let (a, b) = pair(&mut draw, LONGEST_WINDOW);
         lengths[agree_by_tables(&a, &b)] += 1;
     }
-    assert!(lengths[0] > 100 && lengths[13..].iter().sum::<usize>() > 20, "{lengths:?}");
+    assert!(lengths[0] > 50 && lengths[12..].iter().sum::<usize>() > 3, "lengths of patterns between: {lengths:?}");
 }
 
 /// The reference's own search, pattern by pattern, without the pages.
 #[test]
 fn random_pairs_literally() {
     let mut draw = Draw::new(22);
-    for _ in 0..cases(60) {
+    for _ in 0..cases(40) {
         let (a, b) = pair(&mut draw, OLD_LONGEST_WINDOW);
         agree(&a, &b, between_within(OLD_LONGEST_WINDOW, &a, &b));
     }

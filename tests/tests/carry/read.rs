@@ -63,6 +63,7 @@ fn ring(states: usize) -> Vec<u8> {
 fn worked() {
     let of = |outcomes, count, lost| record(SET, outcomes, count, lost);
     let (fresh, old) = (of("111111111111111", NONE, 0), of("11111111111", NONE, 0));
+    let ring = ring(16);
     type Want = Result<(u16, bool, u64), (u64, u64)>;
     let rows: Vec<(Vec<u8>, &[u8], Want)> = vec![
         (fresh.clone(), TABLE, Ok((0, false, 0))),
@@ -85,8 +86,8 @@ fn worked() {
         // Another table than the set's. On one of sixteen states in a ring the hits before eleven outcomes are walked too.
         (of("000000000000000", NONE, 0), ANY_MISS, Ok((0, false, 0))),
         (of("00000000000", NONE, 0), ANY_MISS, Ok((0, false, 0))),
-        (of("111111111111111", NONE, 0), &ring(16), Ok((15, false, 0))),
-        (of("11111111111", NONE, 0), &ring(16), Ok((15, false, 0))),
+        (of("111111111111111", NONE, 0), &ring, Ok((15, false, 0))),
+        (of("11111111111", NONE, 0), &ring, Ok((15, false, 0))),
         // 18: other versions, lengths and length fields.
         (vec![], TABLE, Err((18, 0))),
         (with(fresh.clone(), 4, 0), TABLE, Err((18, 0))),

@@ -65,8 +65,9 @@ fn every_pattern(jobs: usize, limit: Limit) {
 #[test]
 fn every_short_pattern() {
     let telling = [(0, 3, 12), (1, 2, 9), (1, 4, 16), (2, 5, 12), (2, 2, 7), (2, 3, 16), (3, 12, 0), (3, 4, 0)];
-    telling.map(|(kind, x, k)| every_pattern(OLD_LONGEST_WINDOW, Limit { kind, x, k }));
-    [(3, 16, 0), (1, 2, 6)].map(|(kind, x, k)| every_pattern(LONGEST_WINDOW, Limit { kind, x, k }));
+    telling.into_iter().for_each(|(kind, x, k)| every_pattern(OLD_LONGEST_WINDOW, Limit { kind, x, k }));
+    let small = [(3, 16, 0), (1, 2, 6)];
+    small.into_iter().for_each(|(kind, x, k)| every_pattern(LONGEST_WINDOW, Limit { kind, x, k }));
 }
 
 /// Every limit alone and sets by chance, told so many outcomes that all that are held were told, with misses as dense as

@@ -92,7 +92,7 @@ fn empty_logs() {
 /// The window of a lost log, by hand: it begins in the log, with job 0, and before that.
 #[test]
 fn windows() {
-    let rows: [(Limit, &[u8], u64, i64); 5] = [
+    let rows: [(Limit, &[u8], u64, i64); 6] = [
         (Limit { kind: 3, x: 2, k: 0 }, &[0, 0], 2, 1),
         (Limit { kind: 1, x: 2, k: 5 }, &[0, 0, 0], 3, 0),
         (Limit { kind: 2, x: 2, k: 5 }, &[0, 0, 0, 1, 1, 1, 1], 3, -1),
