@@ -27,6 +27,7 @@ static const floe_set sets[] = {
     {1, {{FLOE_ANY_MISS, 12, 12}}},
     {2, {{FLOE_ANY_HIT, 3, 16}, {FLOE_ROW_MISS, 13, 0}}},
     {1, {{FLOE_ROW_HIT, 3, 16}}},
+    {1, {{FLOE_ANY_MISS, 3, 16}}},
 };
 enum { SETS = sizeof sets / sizeof *sets };
 

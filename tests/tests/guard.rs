@@ -193,8 +193,7 @@ fn long_runs_on_tables_of_sets() {
     }
 }
 
-/// On the largest table of a limit alone, by its states and by the story: AnyHit(8,16). Fourteen hits after eight misses
-/// don't bring the guard back yet, the fifteenth does.
+/// On the largest table of a limit alone, by its states and by the story: AnyHit(8,16).
 #[test]
 fn on_a_table_of_12_870_states() {
     let set = [Limit { kind: 0, x: 8, k: 16 }];
@@ -212,19 +211,21 @@ fn on_a_table_of_12_870_states() {
         highest = highest.max(guard.state);
     }
     assert!(highest > 2048, "{highest}");
-    for hits in 1..=HELD {
+    let back = (0..HELD).fold(guard, |guard, _| agree_on_guard(guard, &table, 1).0);
+    assert_eq!(back, Guard { count: back.count, ..FRESH });
+}
+
+/// AnyMiss(1,16): fourteen hits after a miss don't bring the guard back yet, the fifteenth does.
+#[test]
+fn fifteen_hits() {
+    let table = table::bytes(&table::states(&[Limit { kind: 2, x: 1, k: 16 }]));
+    let mut guard = agree_on_guard(FRESH, &table, 0).0;
+    for hits in 1..=15 {
+        assert_eq!(ask(guard, &table), Ok(Answer::Panic), "after {} hits", hits - 1);
         guard = agree_on_guard(guard, &table, 1).0;
-        assert!(hits < HELD || guard == Guard { count: guard.count, ..FRESH });
+        assert_eq!(guard.state == 0, hits == 15, "after {hits} hits");
     }
-    let misses = (0..8).fold(guard, |guard, _| agree_on_guard(guard, &table, 0).0);
-    assert_eq!(ask(misses, &table), Ok(Answer::Panic));
-    let back: Vec<u16> = (0..HELD)
-        .scan(misses, |guard, _| {
-            *guard = agree_on_guard(*guard, &table, 1).0;
-            Some(guard.state)
-        })
-        .collect();
-    assert!(back[HELD - 2] != 0 && back[HELD - 1] == 0, "{back:?}");
+    assert_eq!(guard, Guard { count: 16, ..FRESH });
 }
 
 /// A guard's state may have 15 bits: 32,767 is below n where n is 32,768, "n is 0 or more than 32,768" beyond.

@@ -53,7 +53,7 @@ fn every_head() {
 #[test]
 fn sets_that_are_allowed() {
     let mut draw = Draw::new(1);
-    for _ in 0..cases(200_000) {
+    for _ in 0..cases(100_000) {
         let count = 1 + draw.below(8);
         let limits: Vec<_> = (0..count).map(|_| draw.limit()).collect();
         assert_eq!(agree(&sets::bytes(&limits)), 0);
@@ -64,7 +64,7 @@ fn sets_that_are_allowed() {
 fn damaged_sets() {
     let mut draw = Draw::new(2);
     let mut seen = [0; 8];
-    for _ in 0..cases(1_000_000) {
+    for _ in 0..cases(300_000) {
         let mut set = sets::bytes(&draw.set());
         damage(&mut draw, &mut set);
         seen[agree(&set)] += 1;
@@ -76,7 +76,7 @@ fn damaged_sets() {
 fn several_faults_at_once() {
     let mut draw = Draw::new(3);
     let mut seen = [0; 8];
-    for _ in 0..cases(1_000_000) {
+    for _ in 0..cases(300_000) {
         seen[agree(&faulty_set(&mut draw))] += 1;
     }
     assert!(seen.iter().all(|&times| times > 100), "{seen:?}");

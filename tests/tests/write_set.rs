@@ -24,18 +24,21 @@ fn agree(draw: &mut Draw, count: u64, places: [Limit; 8], room: usize) -> usize 
 
 const NONE: Limit = Limit { kind: 0, x: 0, k: 0 };
 
-/// One limit, with the same in the places that aren't in use.
+/// One limit, with the same in the places that aren't in use: every x and k of every kind that there is, and of some that
+/// there aren't.
 #[test]
-fn every_single_limit_of_three_bytes() {
+fn every_single_limit() {
     let mut draw = Draw::new(11);
     let mut seen = [0; 10];
-    for number in 0..1u32 << 24 {
-        let [_, kind, x, k] = number.to_be_bytes();
-        seen[agree(&mut draw, 1, [Limit { kind, x, k }; 8], 9)] += 1;
+    for kind in [0, 1, 2, 3, 4, 5, 127, 128, 255] {
+        for number in 0..=u16::MAX {
+            let [x, k] = number.to_be_bytes();
+            seen[agree(&mut draw, 1, [Limit { kind, x, k }; 8], 9)] += 1;
+        }
     }
     // The table of kinds allows 3 times 152 limits with a k, and 16 without.
     assert_eq!((seen[0], allowed_limits().len()), (472, 472));
-    assert_eq!(seen.iter().sum::<usize>(), 1 << 24);
+    assert_eq!(seen[5], 5 << 16);
 }
 
 /// Any count, also one that no set has; any limits, those that aren't in use too; any buffer.

@@ -21,7 +21,7 @@ fn worked() {
     assert_eq!(floe::guard::ask(missed, &table).answer, Answer::Panic as u64);
 }
 
-/// The guard that a record of version 1 gives: "only version 2 is written", so it has forgotten the four oldest outcomes.
+/// The guard that its record of version 1 gives: with hits in the places of the four oldest outcomes.
 fn without_oldest(guard: Guard) -> Guard {
     let mut outcomes = guard.outcomes;
     outcomes[..HELD - OLD_HELD].fill(true);
