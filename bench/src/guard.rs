@@ -4,11 +4,11 @@
 use std::hint::black_box;
 use std::slice::from_ref;
 
-use floelinnet_tests::{floe, reference};
 use floelinnet_tests::reference::carry::old_record;
 use floelinnet_tests::reference::limits::{width, Limit, OLD_LONGEST_WINDOW};
 use floelinnet_tests::reference::sets::bytes;
 use floelinnet_tests::reference::table::{LONGEST_TABLE, WORK_ENTRIES};
+use floelinnet_tests::{floe, reference};
 
 use crate::clock::{side_by_side, use_up};
 use crate::figures::{words, Figure, Figures, Unit};
@@ -163,10 +163,9 @@ fn carried(figures: &mut Figures, limits: &[Limit], outcomes: [u8; HELD]) {
     let Some(old) = record_of_version_1(guard, limits) else { return };
     assert_eq!(floe::carry::read(&old, &table).guard, guard);
     assert_eq!(plain::carry::read(&old, &table), Ok(plain_guard));
-    let times = side_by_side(&mut [
-        &mut || use_up(floe::carry::read(black_box(&old), black_box(&table))),
-        &mut || use_up(plain::carry::read(black_box(&old), black_box(&table))),
-    ]);
+    let times = side_by_side(&mut [&mut || use_up(floe::carry::read(black_box(&old), black_box(&table))), &mut || {
+        use_up(plain::carry::read(black_box(&old), black_box(&table)))
+    }]);
     figures.add(Figure {
         what: "read a record of version 1 back",
         input: &input(limits, &table),

@@ -1,9 +1,7 @@
 //! The safe face in bindings/rust against the archive's plain records: each of its answers, put back into a record, is
 //! the record that the same call gives.
 
-use floelinnet::{
-    log_size, record_size, Comparison, Guard, LogReader, Refused, Verdict, LONGEST_TABLE, WORK_ENTRIES,
-};
+use floelinnet::{log_size, record_size, Comparison, Guard, LogReader, Refused, Verdict, LONGEST_TABLE, WORK_ENTRIES};
 use floelinnet_tests::damage::{damage, drawn_table, spoilt_log, spoilt_record, spoilt_set};
 use floelinnet_tests::draw::{cases, Draw};
 use floelinnet_tests::reference::compare::RefusedSet;

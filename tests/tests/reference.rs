@@ -91,9 +91,8 @@ fn between_by_tables() {
     }
     assert!(covers > 5, "{covers}");
     // Long windows, with a pattern of 16 jobs between them and with none.
-    let limits: Vec<Limit> = [(2, 2, 15), (2, 2, 16), (0, 3, 14), (1, 2, 16), (3, 16, 0)]
-        .map(|(kind, x, k)| Limit { kind, x, k })
-        .to_vec();
+    let limits: Vec<Limit> =
+        [(2, 2, 15), (2, 2, 16), (0, 3, 14), (1, 2, 16), (3, 16, 0)].map(|(kind, x, k)| Limit { kind, x, k }).to_vec();
     let pages = Pages::new(limits.clone(), LONGEST_WINDOW);
     for &a in &limits {
         for &b in &limits {

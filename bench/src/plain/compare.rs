@@ -26,7 +26,9 @@ pub fn compare(first: &[u8], second: &[u8]) -> Result<Option<Vec<u8>>, Refusal> 
 fn keeps(set: &Set, around: &[u8; AROUND], length: usize) -> bool {
     let kept = |limit: &Limit| {
         let width = width(limit);
-        around[LONGEST_WINDOW - width..LONGEST_WINDOW + length + width].windows(width).all(|window| holds(limit, window))
+        around[LONGEST_WINDOW - width..LONGEST_WINDOW + length + width]
+            .windows(width)
+            .all(|window| holds(limit, window))
     };
     set.limits().iter().all(kept)
 }

@@ -183,7 +183,8 @@ fn of_old_records() {
     let record: [u8; 34] = [&[0, 0, 0, 30, 1][..], &SET, &[1; 11], &[0; 9]].concat().try_into().unwrap();
     assert_eq!(Guard::read_record(&record, &TABLE), Ok(Guard::default()));
     let refused = |record: &[u8]| Guard::read_record(record, &TABLE).unwrap_err();
-    let words = "the record has version 1, and its set has a window of more than 12 jobs: a record of version 1 can only \
+    let words =
+        "the record has version 1, and its set has a window of more than 12 jobs: a record of version 1 can only \
                  be of shorter ones, so start a new guard";
     let longer = with(record, 13, 13);
     says(refused(&longer), 20, 0, words);

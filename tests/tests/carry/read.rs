@@ -144,7 +144,11 @@ fn worked() {
                 assert_eq!((found.refused, found.at), (0, 0), "{record:02X?}");
                 assert_eq!((guard.state, guard.lost, guard.count), fields, "{record:02X?}");
                 let own = &record[14..record.len() - 9];
-                assert_eq!(guard.outcomes.map(u8::from), [&vec![1; HELD - own.len()], own].concat()[..], "{record:02X?}");
+                assert_eq!(
+                    guard.outcomes.map(u8::from),
+                    [&vec![1; HELD - own.len()], own].concat()[..],
+                    "{record:02X?}"
+                );
             }
             Err(refusal) => {
                 assert_eq!((found.refused, found.at), refusal, "{record:02X?}");
@@ -237,13 +241,8 @@ const TABLES: [(&[u8], u64); 5] = [
 /// check, the whole table; then 25": every choice of faults, in a record of a lost guard and of one that isn't.
 fn every_choice_of_faults(outcomes: [(&str, u64, u64); 4]) -> [usize; 26] {
     let mut seen = [0; 26];
-    let heads: [fn(&mut Vec<u8>); 5] = [
-        |_| (),
-        |record| record[3] ^= 1,
-        |record| record[4] = 0,
-        |record| record[4] = 3,
-        |record| record.push(0),
-    ];
+    let heads: [fn(&mut Vec<u8>); 5] =
+        [|_| (), |record| record[3] ^= 1, |record| record[4] = 0, |record| record[4] = 3, |record| record.push(0)];
     for (number, head) in heads.iter().enumerate() {
         for (set, set_fault, limit) in SETS {
             for (outcomes, outcomes_fault, place) in outcomes {
