@@ -99,9 +99,9 @@ impl Guard {
     ///
     /// A record doesn't say of which table it is, and whether the table was made of the record's set isn't asked: on
     /// another table the guard is in the state where the walk ends there, or 25 refuses it. So build the table from the
-    /// set that the record carries, which is what begins at byte 5 and has [`record_size(0)`](record_size) bytes fewer
-    /// than the record, where there are so many; or keep a set and its table together and read only records that carry
-    /// this set. The version, which is byte 4, says which length a record has:
+    /// set that the record carries, which begins at byte 5 and has [`record_size(0)`](record_size) bytes fewer than the
+    /// record, with version 1 [`old_record_size(0)`](old_record_size), where there are so many; or keep a set and its
+    /// table together and read only records that carry this set. The version is byte 4:
     ///
     /// ```
     /// use floelinnet::{old_record_size, record_size};

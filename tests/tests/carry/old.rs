@@ -3,7 +3,7 @@
 use floelinnet_tests::draw::{cases, Draw};
 use floelinnet_tests::reference::carry::{old_record, record, OLD_HELD};
 use floelinnet_tests::reference::guard::{tell, Answer, Guard, Story, FRESH, HELD};
-use floelinnet_tests::reference::limits::{allowed_limits, width, Limit, OLD_LONGEST_WINDOW};
+use floelinnet_tests::reference::limits::{allowed_limits, limits_within, width, Limit, OLD_LONGEST_WINDOW};
 use floelinnet_tests::reference::sets;
 use floelinnet_tests::{expected, floe};
 
@@ -72,8 +72,8 @@ fn goes_on(draw: &mut Draw, limits: &[Limit], walked: &Walked) -> Answer {
 #[test]
 fn as_one_never_switched_off() {
     let mut draw = Draw::new(201);
-    let alone = allowed_limits().into_iter().filter(|&limit| width(limit) <= OLD_LONGEST_WINDOW);
-    let alone: Vec<Walked> = alone.map(|limit| Walked::new(vec![limit])).collect();
+    let alone = limits_within(OLD_LONGEST_WINDOW).into_iter().map(|limit| Walked::new(vec![limit]));
+    let alone: Vec<Walked> = alone.collect();
     let by_chance = walked_within(&mut draw, OLD_LONGEST_WINDOW, cases(60));
     let mut heard = [0; 3];
     for walked in alone.iter().chain(&by_chance) {
@@ -97,8 +97,7 @@ fn windows_that_reach_further_back() {
         limits[place] = limit;
         for limits in [&[limit][..], &limits] {
             let set = sets::bytes(limits);
-            let guard = draw.guard(1);
-            let guard = Guard { state: 0, ..guard };
+            let guard = Guard { state: 0, ..draw.guard(1) };
             let want = match width(limit) > OLD_LONGEST_WINDOW {
                 true => floe::Started { refused: 20, at: 0, guard: floe::guard::new() },
                 false => expected::started(Ok(without_oldest(guard))),
