@@ -52,6 +52,13 @@ static floe_started start_anew(void) {
     return floe_guard_start(table, table_len);
 }
 
+/* Whether a record that was read back carries this set, after the version. One that the software before the update
+ * wrote has version 1, and is shorter. */
+static bool carries_set(const uint8_t *record, size_t length) {
+    size_t size = record[4] == 1 ? FLOE_OLD_RECORD_SIZE(set_len) : FLOE_RECORD_SIZE(set_len);
+    return length == size && memcmp(record + 5, set, set_len) == 0;
+}
+
 /* The guard that was stored, or else a new one, and then the assistant has to hear of it. */
 static floe_started switch_on(void) {
     int file = openat(folder, "record", O_RDONLY);
@@ -69,7 +76,7 @@ static floe_started switch_on(void) {
         return start_anew();
     }
     /* A record carries its set. This table is of these limits, and an update may have changed them. */
-    if ((size_t)length != FLOE_RECORD_SIZE(set_len) || memcmp(record + 5, set, set_len) != 0) {
+    if (!carries_set(record, (size_t)length)) {
         printf("switched on: what was stored is for other limits\n");
         return start_anew();
     }

@@ -14,7 +14,8 @@ use std::process::ExitCode;
 use std::{env, process};
 
 use floelinnet::{
-    build, record_size, Answer, Guard, Limit, LimitSet, Refused, LONGEST_RECORD, LONGEST_TABLE, WORK_ENTRIES,
+    build, old_record_size, record_size, Answer, Guard, Limit, LimitSet, Refused, LONGEST_RECORD, LONGEST_TABLE,
+    WORK_ENTRIES,
 };
 
 /// At most 2 late readings in any 8, and never 2 in a row.
@@ -31,7 +32,7 @@ impl Recorder {
     fn new(folder: PathBuf) -> Result<Recorder, Refused> {
         let set = LimitSet::new(&LIMITS)?;
         let mut table = vec![0; LONGEST_TABLE];
-        let length = build(set.bytes(), &mut [0; WORK_ENTRIES], &mut table)?;
+        let length = build(set.bytes(), &mut vec![0; WORK_ENTRIES], &mut table)?;
         table.truncate(length);
         Ok(Recorder { set, table, folder })
     }
@@ -76,13 +77,20 @@ impl Recorder {
             Ok(guard) => guard,
         };
         // A record carries its set. This table is of these limits, and an update may have changed them.
-        let set = self.set.bytes();
-        if record.len() != record_size(set.len()) || !record[5..].starts_with(set) {
+        if !self.carried_by(&record) {
             println!("switched on: what was stored is for other limits");
             return self.start_anew();
         }
         println!("switched on: the guard goes on after reading {}", guard.count);
         Ok(guard)
+    }
+
+    /// Whether a record that was read back carries this set, after the version. One that the software before the update
+    /// wrote has version 1, and is shorter.
+    fn carried_by(&self, record: &[u8]) -> bool {
+        let set = self.set.bytes();
+        let size = if record[4] == 1 { old_record_size(set.len()) } else { record_size(set.len()) };
+        record.len() == size && record[5..].starts_with(set)
     }
 
     /// The readings that are taken on one battery.

@@ -43,11 +43,12 @@
  * Who owns what. All memory is the caller's. No function allocates, and none keeps a pointer after it returns.
  * Structs are passed and returned by value; none has to be released.
  *
- * Memory. A set has at most 30 bytes, a table at most 8199, a guard 24, a record at most FLOE_LONGEST_RECORD, a log of
- * n outcomes FLOE_LOG_SIZE(n); building wants a work area of 16384 bytes, which is free again afterwards. No call uses
- * more than 1024 bytes of stack, the record of its answer included, and the archive has no memory of its own. Of the C
- * library it calls memset alone; where that is linked lazily, the dynamic linker takes some stack of its own in the
- * first call (-z now does that before main).
+ * Memory. A set has at most 30 bytes, a table at most 131079, a guard 32, a record at most FLOE_LONGEST_RECORD, a log
+ * of n outcomes FLOE_LOG_SIZE(n); building wants a work area of 262144 bytes, which is free again afterwards. A machine
+ * that hasn't so much has its tables built elsewhere and stored (docs/COOKBOOK.md). No call uses more than 1024 bytes of
+ * stack, the record of its answer included, and the archive has no memory of its own. Of the C library it calls memset
+ * alone; where that is linked lazily, the dynamic linker takes some stack of its own in the first call (-z now does that
+ * before main).
  *
  * Threads. No state is kept between calls, so any thread may call any function at any time, as long as no other
  * thread writes to what a call reads, or uses what a call writes, while it runs. A row counts as a whole here: while
@@ -62,14 +63,14 @@
 
 /* The version of this header and of the archive that it came with. A program is compiled against the header of the
  * archive that it links. */
-#define FLOE_VERSION "0.6.0"
+#define FLOE_VERSION "0.7.0"
 
-#define FLOE_MOST_LIMITS 8      /* limits in a set, at the most */
-#define FLOE_LONGEST_SET 30     /* bytes of the longest set */
-#define FLOE_WORK_ENTRIES 8192  /* entries of 16 bits that floe_build works in */
-#define FLOE_LONGEST_TABLE 8199 /* bytes of the longest table */
-#define FLOE_MOST_GUARDS 16     /* guards in a row, at the most */
-#define FLOE_LONGEST_WINDOW 12  /* jobs of the longest window */
+#define FLOE_MOST_LIMITS 8        /* limits in a set, at the most */
+#define FLOE_LONGEST_SET 30       /* bytes of the longest set */
+#define FLOE_WORK_ENTRIES 131072  /* entries of 16 bits that floe_build works in */
+#define FLOE_LONGEST_TABLE 131079 /* bytes of the longest table */
+#define FLOE_MOST_GUARDS 16       /* guards in a row, at the most */
+#define FLOE_LONGEST_WINDOW 16    /* jobs of the longest window */
 
 /* Outcomes that a guard holds. A window that a later outcome completes reaches back no further. */
 #define FLOE_HELD (FLOE_LONGEST_WINDOW - 1)
@@ -78,7 +79,10 @@
  * set_len has, in #if too: a head of 5, the set, FLOE_HELD outcomes, and 9 for the count and the lost byte. Nothing
  * overflows up to UINT64_MAX - FLOE_RECORD_SIZE(0). set_len is evaluated once. */
 #define FLOE_RECORD_SIZE(set_len) ((set_len) + UINT64_C(5) + FLOE_HELD + 9)
-#define FLOE_LONGEST_RECORD FLOE_RECORD_SIZE(FLOE_LONGEST_SET) /* bytes of the longest record, 55 */
+#define FLOE_LONGEST_RECORD FLOE_RECORD_SIZE(FLOE_LONGEST_SET) /* bytes of the longest record, 59 */
+
+/* The same of a record of version 1, which has 11 outcomes. Such records are read, but no longer written. */
+#define FLOE_OLD_RECORD_SIZE(set_len) ((set_len) + UINT64_C(5) + 11 + 9)
 
 /* Bytes of the log of n outcomes, as a number of 64 bits whatever integer type n has, in #if too. For n from 0 to
  * 4,294,967,295, the most outcomes of a log; nothing overflows up to UINT64_MAX - 7. n is evaluated once. */
@@ -90,12 +94,12 @@ enum floe_outcome {
     FLOE_HIT = 1   /* the deadline was met */
 };
 
-/* The kind of a limit. Of the first three k is the length of the window, 1 to 12 jobs, and x is 0 to k. */
+/* The kind of a limit. Of the first three k is the length of the window, 1 to 16 jobs, and x is 0 to k. */
 enum floe_kind {
     FLOE_ANY_HIT = 0,  /* at least x hits in every k jobs */
     FLOE_ROW_HIT = 1,  /* x hits in a row in every k jobs */
     FLOE_ANY_MISS = 2, /* at most x misses in every k jobs */
-    FLOE_ROW_MISS = 3  /* x misses in a row never happen, x from 1 to 12; k is 0 */
+    FLOE_ROW_MISS = 3  /* x misses in a row never happen, x from 1 to 16; k is 0 */
 };
 
 /* What a guard answers before a job. Test for the first two and take everything else as an alarm, in a switch by its
@@ -120,7 +124,7 @@ enum floe_log_answer {
 /* Why a call is refused, and what `at` says then (where nothing is said, 0). The numbers are tested in this order,
  * limits first to last and each for its kind, k and x, and the first that applies is given; but a call on a row tests
  * FLOE_REFUSED_JOB first, floe_judge tests 26 before 13, floe_log_write tests 15, 13 and then 9, and floe_carry_read
- * tests 18, 1 to 7, 13, 19, 10 to 12 and then 25. */
+ * tests 18, 1 to 7, 20, 13, 19, 10 to 12 and then 25. */
 enum floe_refusal {
     FLOE_ACCEPTED = 0,               /* the call was not refused */
     FLOE_REFUSED_SET_LENGTH = 1,     /* set: under 6 bytes, or its length field isn't the count of bytes after it */
@@ -130,12 +134,12 @@ enum floe_refusal {
     FLOE_REFUSED_LIMIT_KIND = 5,     /* a limit's kind is above 3; at: its number, from 0 */
     FLOE_REFUSED_LIMIT_K = 6,        /* a limit's k isn't one that its kind takes; at: its number, from 0 */
     FLOE_REFUSED_LIMIT_X = 7,        /* a limit's x isn't one that its kind takes; at: its number, from 0 */
-    FLOE_REFUSED_WORK_LENGTH = 8,    /* the work area has fewer than 8192 entries */
+    FLOE_REFUSED_WORK_LENGTH = 8,    /* the work area has fewer than 131072 entries */
     FLOE_REFUSED_ROOM = 9,           /* the buffer is shorter than what must be written, a table, a set, a log or a
                                         record; at: the length needed, in bytes */
     FLOE_REFUSED_TABLE_LENGTH = 10,  /* table: under 7 bytes, or its length field isn't the count of bytes after it */
     FLOE_REFUSED_TABLE_VERSION = 11, /* the table's version isn't 1 */
-    FLOE_REFUSED_STATES = 12,        /* the table's count of states n is 0 or above 2048, its length field isn't
+    FLOE_REFUSED_STATES = 12,        /* the table's count of states n is 0 or above 32768, its length field isn't
                                         3 + 4 * n, a next state is n or more (FF FF after a miss excepted), or the
                                         guard's state is n or more */
     FLOE_REFUSED_OUTCOME = 13,       /* an outcome is neither 0 nor 1; at: its place among the outcomes, from 0, and 0
@@ -146,9 +150,12 @@ enum floe_refusal {
                                         outcomes takes; or a pattern for a log has more than 4,294,967,295 outcomes */
     FLOE_REFUSED_UNUSED_BITS = 16,   /* the low bits of the log's last byte that no outcome takes aren't all zero */
     FLOE_REFUSED_COUNT = 17,         /* the guard was told 18,446,744,073,709,551,615 outcomes, UINT64_MAX, already */
-    FLOE_REFUSED_RECORD = 18,        /* record: under FLOE_RECORD_SIZE(0) bytes, or its length field isn't the count of
-                                        bytes after it, or its version isn't 1 */
+    FLOE_REFUSED_RECORD = 18,        /* record: its version is neither 1 nor 2; or it has under FLOE_RECORD_SIZE(0)
+                                        bytes, with version 1 under FLOE_OLD_RECORD_SIZE(0); or its length field isn't
+                                        the count of bytes after it */
     FLOE_REFUSED_LOST_BYTE = 19,     /* the lost byte of the record is neither 0 nor 1 */
+    FLOE_REFUSED_OLD_RECORD = 20,    /* a record of version 1 whose set has a window of more than 12 jobs: what it holds
+                                        doesn't reach back so far, so start a new guard */
     FLOE_REFUSED_WALK = 25,          /* the outcomes of the record can't be walked on the table from state 0 */
     FLOE_REFUSED_PATTERN_LENGTH = 26 /* a pattern that is to be judged has more than 9,223,372,036,854,775,807 outcomes;
                                         no memory of an x86-64 machine holds so many */
@@ -239,7 +246,7 @@ FLOE_NODISCARD floe_written floe_write_set(floe_set set, uint8_t *bytes, size_t 
  * that doesn't keep the pattern up to that job. Both are 0 where nothing is lost.
  * first: where it is lost, where to look. With endless hits before and after the pattern up to that job, the earliest
  * window of that limit that fails begins with this job. The job at which the pattern is lost lies in this window, so
- * job - first is below FLOE_LONGEST_WINDOW. The pattern begins with job 1; jobs 0, -1, -2 and so on, down to -10, are
+ * job - first is below FLOE_LONGEST_WINDOW. The pattern begins with job 1; jobs 0, -1, -2 and so on, down to -14, are
  * hits that count as standing before it. first is 0 where nothing is lost; but a window may begin with job 0, so look
  * at refused, and at kept or job, before it.
  *
@@ -253,7 +260,7 @@ FLOE_NODISCARD floe_verdict floe_judge(const uint8_t *set, size_t set_len,
  * Compares two sets: does every pattern that the first keeps, the second keep too?
  *
  * covers: 1 if so; length is 0 then. Else 0, and length and pattern are the shortest pattern that the first keeps and
- * the second doesn't, 1 to 12 outcomes, of equal lengths the one with a miss at the earliest place where they differ.
+ * the second doesn't, 1 to 16 outcomes, of equal lengths the one with a miss at the earliest place where they differ.
  * The places of pattern from length on are 0.
  *
  * Refuses by 1 to 7, the first set before the second. which says the set that is refused, 1 or 2; it is 0 where none
@@ -284,7 +291,7 @@ FLOE_NODISCARD floe_built floe_build(const uint8_t *set, size_t set_len, uint16_
  * Checks the bytes of a whole table, in time that grows with its length. table_len is the table's own length, not
  * that of a longer buffer that holds it.
  *
- * states: the count of states, 1 to 2048; 0 on a refusal. Refuses by 10 to 12. It doesn't say of which set the table
+ * states: the count of states, 1 to 32768; 0 on a refusal. Refuses by 10 to 12. It doesn't say of which set the table
  * is, nor that it is of one.
  */
 FLOE_NODISCARD floe_checked floe_check_table(const uint8_t *table, size_t table_len);
@@ -342,8 +349,8 @@ FLOE_NODISCARD floe_told floe_guard_tell(floe_guard guard, const uint8_t *table,
  * several that run side by side; in a pattern it is one run): the guards of the other jobs are never written, and the
  * answer doesn't depend on them.
  *
- * A single guard is a row of one. Handed over by its address it isn't copied in and out, and the call is the faster one
- * for it; what it answers is the same:
+ * A single guard is a row of one. Handed over by its address it isn't copied in and out: an ask is cheaper so, and
+ * whether a tell is depends on the machine. What they answer is the same:
  *
  *     floe_row_asked asked = floe_row_ask(&guard, 1, 0, table, table_len);
  *     floe_done told = floe_row_tell(&guard, 1, 0, table, table_len, FLOE_HIT);
@@ -380,12 +387,13 @@ FLOE_NODISCARD floe_done floe_row_tell(floe_guard *row, size_t count, size_t job
 
 /*
  * A carry-over record, in short a record: a guard as it is stored while it is switched off, beside the set whose table
- * it walks. Its bytes are four, big-endian, that count the bytes after them; the version, 1; the bytes of the set, with
+ * it walks. Its bytes are four, big-endian, that count the bytes after them; the version, 2; the bytes of the set, with
  * their own head; the FLOE_HELD outcomes that the guard holds, one a byte, oldest first; eight for the count; and one
  * that is 1 if the guard is lost, else 0. The set's bytes are all that lie between the version, which is byte 4, and
  * the last FLOE_HELD + 9. With the set AnyHit(1,2) a guard that was told one miss has
  *
- *     00 00 00 1E 01  00 00 00 05 01 01 00 01 02  01 01 01 01 01 01 01 01 01 01 00  00 00 00 00 00 00 00 01  00
+ *     00 00 00 22 02  00 00 00 05 01 01 00 01 02
+ *     01 01 01 01 01 01 01 01 01 01 01 01 01 01 00  00 00 00 00 00 00 00 01  00
  *
  * The state isn't in it: reading walks the outcomes on a table from state 0. Write a record before the power goes, or
  * after each tell, and when it is back read it instead of starting a guard. To write that of a guard and the bytes of
@@ -404,7 +412,13 @@ FLOE_NODISCARD floe_done floe_row_tell(floe_guard *row, size_t count, size_t job
  * the set and its table together and read only a record that carries this set: its length is
  * FLOE_RECORD_SIZE(limits_len), and memcmp(record + 5, limits, limits_len) is 0. Or build the table from the set that
  * the record carries: its bytes are those from record + 5 on, FLOE_RECORD_SIZE(0) fewer than the record has, and a
- * record that hasn't even so many carries none.
+ * record that hasn't even so many carries none. Of a record of version 1, record[4] tells, both are said by
+ * FLOE_OLD_RECORD_SIZE instead.
+ *
+ * Version 1. Before 0.7.0 a record had the version 1 and the last 11 outcomes, as many as matter while no window has
+ * more than 12 jobs. It is read as one that has hits in the places of the four older outcomes, and on the table that
+ * floe_build makes of its set the guard goes on as one that was never switched off. Where its set has a longer window,
+ * it is refused by 20. Only version 2 is written.
  *
  * What can't be noticed. A record that was cut short is refused by 18. But it has no check sum, and a record that is
  * written over the old one and torn in the middle has bytes of both, which may pass every test and be the guard of
@@ -433,9 +447,9 @@ FLOE_NODISCARD floe_written floe_carry_write(floe_guard guard, const uint8_t *se
  * from state 0 ends; on a refusal a guard with nothing told. So look at refused first: that guard looks like one that
  * was just started.
  *
- * Refuses by 18; then by 1 to 7 for the set's bytes in the record; then by 13 for its outcomes, with the place, from 0,
- * among these FLOE_HELD in at; then by 19; then by 10 to 12 for the table; then by 25, whether or not the record is of
- * a lost guard. A count, outcomes and a lost byte that no guard has together aren't refused for that.
+ * Refuses by 18; then by 1 to 7 for the set's bytes in the record; then by 20; then by 13 for its outcomes, with the
+ * place, from 0, among those that it has in at; then by 19; then by 10 to 12 for the table; then by 25, whether or not
+ * the record is of a lost guard. A count, outcomes and a lost byte that no guard has together aren't refused for that.
  */
 FLOE_NODISCARD floe_started floe_carry_read(const uint8_t *record, size_t record_len,
                                             const uint8_t *table, size_t table_len);

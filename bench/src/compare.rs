@@ -4,7 +4,7 @@ use std::hint::black_box;
 
 use floelinnet_tests::draw::Draw;
 use floelinnet_tests::floe;
-use floelinnet_tests::reference::limits::{allowed_limits, Limit};
+use floelinnet_tests::reference::limits::{allowed_limits, width, Limit, LONGEST_WINDOW};
 use floelinnet_tests::reference::sets::bytes;
 
 use crate::clock::{side_by_side, use_up};
@@ -14,14 +14,17 @@ use crate::search::slowest;
 
 type Pair = (Vec<Limit>, Vec<Limit>);
 
-/// Small changes tried after the sets of equal limits.
-const CHANGES: usize = 3000;
+/// Small changes tried after the sets of equal limits of the longest window.
+const CHANGES: usize = 300;
 
 pub fn measure(figures: &mut Figures) {
-    figure(figures, "compare", &with_itself(Limit { kind: 1, x: 2, k: 12 }));
-    figure(figures, "compare", &with_itself(Limit { kind: 0, x: 1, k: 12 }));
+    for k in [12, LONGEST_WINDOW as u8] {
+        figure(figures, "compare", &with_itself(Limit { kind: 1, x: 2, k }));
+        figure(figures, "compare", &with_itself(Limit { kind: 0, x: 1, k }));
+    }
     let mut draw = Draw::new(81);
-    let known = allowed_limits().into_iter().map(with_itself);
+    let longest = allowed_limits().into_iter().filter(|&limit| width(limit) == LONGEST_WINDOW);
+    let known = longest.map(with_itself);
     let (a, b) = slowest(
         known,
         CHANGES,
@@ -52,7 +55,7 @@ fn figure(figures: &mut Figures, what: &str, (a, b): &Pair) {
         buffers: "60 bytes, read just before; none written",
         unit: Unit::Microseconds,
         archive: times[0],
-        beside: "all patterns up to 12 jobs, every window afresh",
+        beside: &format!("all patterns up to {LONGEST_WINDOW} jobs, every window afresh"),
         plain: times[1],
     });
 }

@@ -1,12 +1,14 @@
-//! A guard that is started, asked and told, alone and in a row, written to a record and read back: on a large table and
+//! A guard that is started, asked and told, alone and in a row, written to a record and read back: on large tables and
 //! on the small one of sets/breath.limits.
 
 use std::hint::black_box;
 use std::slice::from_ref;
 
-use floelinnet_tests::floe;
-use floelinnet_tests::reference::limits::Limit;
+use floelinnet_tests::reference::carry::old_record;
+use floelinnet_tests::reference::limits::{width, Limit, OLD_LONGEST_WINDOW};
 use floelinnet_tests::reference::sets::bytes;
+use floelinnet_tests::reference::table::{LONGEST_TABLE, WORK_ENTRIES};
+use floelinnet_tests::{floe, reference};
 
 use crate::clock::{side_by_side, use_up};
 use crate::figures::{words, Figure, Figures, Unit};
@@ -15,14 +17,18 @@ use crate::plain::guard::HELD;
 
 pub fn measure(figures: &mut Figures) {
     let large = [Limit { kind: 0, x: 6, k: 12 }];
+    let largest = [Limit { kind: 0, x: 8, k: 16 }];
     let breath = [Limit { kind: 2, x: 2, k: 8 }, Limit { kind: 3, x: 2, k: 0 }];
     asked_and_told(figures, &large);
-    carried(figures, &large, [0, 1, 1, 0, 0, 1, 0, 1, 1, 1, 0]);
-    carried(figures, &breath, [1, 1, 1, 1, 1, 1, 0, 1, 1, 0, 1]);
+    asked_and_told(figures, &largest);
+    let half_hits = [1, 1, 1, 1, 0, 1, 1, 0, 0, 1, 0, 1, 1, 1, 0];
+    carried(figures, &large, half_hits);
+    carried(figures, &largest, half_hits);
+    carried(figures, &breath, [1, 1, 1, 1, 1, 1, 1, 1, 1, 1, 0, 1, 1, 0, 1]);
 }
 
 fn table_of(set: &[u8]) -> Vec<u8> {
-    let (mut work, mut table) = (vec![0; 8192], vec![0; 8199]);
+    let (mut work, mut table) = (vec![0; WORK_ENTRIES], vec![0; LONGEST_TABLE]);
     let built = floe::builder::build(set, &mut work, &mut table);
     table.truncate(built.length as usize);
     table
@@ -30,6 +36,14 @@ fn table_of(set: &[u8]) -> Vec<u8> {
 
 fn input(limits: &[Limit], table: &[u8]) -> String {
     format!("{}, table of {} states", words(limits), (table.len() - 7) / 4)
+}
+
+/// The record of version 1 that holds the newest of the guard's outcomes. It is read where no window is longer than those
+/// of that version.
+fn record_of_version_1(guard: floe::Guard, limits: &[Limit]) -> Option<Vec<u8>> {
+    let floe::Guard { state, lost, outcomes, count } = guard;
+    let guard = reference::guard::Guard { state, lost, outcomes, count };
+    limits.iter().all(|&limit| width(limit) <= OLD_LONGEST_WINDOW).then(|| old_record(guard, &bytes(limits)))
 }
 
 /// What the archive's guard is on the plain side.
@@ -146,4 +160,19 @@ fn carried(figures: &mut Figures, limits: &[Limit], outcomes: [u8; HELD]) {
             plain: times[plain],
         });
     }
+    let Some(old) = record_of_version_1(guard, limits) else { return };
+    assert_eq!(floe::carry::read(&old, &table).guard, guard);
+    assert_eq!(plain::carry::read(&old, &table), Ok(plain_guard));
+    let times = side_by_side(&mut [&mut || use_up(floe::carry::read(black_box(&old), black_box(&table))), &mut || {
+        use_up(plain::carry::read(black_box(&old), black_box(&table)))
+    }]);
+    figures.add(Figure {
+        what: "read a record of version 1 back",
+        input: &input(limits, &table),
+        buffers: read,
+        unit: Unit::Nanoseconds,
+        archive: times[0],
+        beside: "plain reader",
+        plain: times[1],
+    });
 }

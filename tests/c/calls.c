@@ -188,8 +188,35 @@ static void records(floe_guard guard, const uint8_t *set, size_t set_len, const 
     free(record);
 }
 
-/* AnyHit(12,12): the window of a pattern that it loses early begins before the pattern. */
-static const uint8_t all_of_12_bytes[] = {0, 0, 0, 5, 1, 1, 0, 12, 12};
+/* A record of version 1, which the library doesn't write: whole, cut short and spoilt. */
+static void old_records(const uint8_t *set, size_t set_len, const uint8_t *table, size_t table_len) {
+    const uint8_t tail[] = {1, 1, 1, 1, 1, 1, 1, 1, 0, 1, 0, 0, 0, 0, 0, 0, 0, 0, 9, 0};
+    const uint8_t head[] = {0, 0, 0, (uint8_t)(1 + set_len + sizeof tail), 1};
+    size_t length = FLOE_OLD_RECORD_SIZE(set_len);
+    uint8_t *record = (uint8_t *)block(length);
+    memcpy(record, head, sizeof head);
+    memcpy(record + sizeof head, set, set_len);
+    memcpy(record + sizeof head + set_len, tail, sizeof tail);
+    print_started(floe_carry_read(record, length, table, table_len));
+    for (size_t left = 0; left < length; left++) {
+        uint8_t *cut = lent(record, left);
+        print_started(floe_carry_read(cut, left, table, table_len));
+        free(cut);
+    }
+    const struct { size_t place; uint8_t byte; } faults[] = {
+        {4, 0}, {4, 2}, {4, 3}, {12, 13}, {12, 17}, {24, 2}, {length - 1, 2},
+    };
+    for (size_t i = 0; i < sizeof faults / sizeof *faults; i++) {
+        uint8_t *spoilt = lent(record, length);
+        spoilt[faults[i].place] = faults[i].byte;
+        print_started(floe_carry_read(spoilt, length, table, table_len));
+        free(spoilt);
+    }
+    free(record);
+}
+
+/* AnyHit(16,16): the window of a pattern that it loses early begins before the pattern. */
+static const uint8_t all_of_16_bytes[] = {0, 0, 0, 5, 1, 1, 0, 16, 16};
 
 /* Logs: written into a block of the length that the writer asks for, read to the end and past it, judged, and refused. */
 static void logs(const uint8_t *set, size_t set_len, const uint8_t *faulty, size_t faulty_len, uint8_t *nothing) {
@@ -197,7 +224,7 @@ static void logs(const uint8_t *set, size_t set_len, const uint8_t *faulty, size
     const uint8_t no_night_bytes[] = {1, 2, 0};
     uint8_t *night = lent(night_bytes, sizeof night_bytes);
     uint8_t *no_night = lent(no_night_bytes, sizeof no_night_bytes);
-    uint8_t *all_of_12 = lent(all_of_12_bytes, sizeof all_of_12_bytes);
+    uint8_t *all_of_16 = lent(all_of_16_bytes, sizeof all_of_16_bytes);
 
     floe_written needed = floe_log_write(night, sizeof night_bytes, nothing, 0);
     print_written(needed);
@@ -225,7 +252,7 @@ static void logs(const uint8_t *set, size_t set_len, const uint8_t *faulty, size
     print_read(floe_log_next(0, empty, 9));
 
     print_verdict(floe_log_judge(set, set_len, log, length));
-    print_verdict(floe_log_judge(all_of_12, sizeof all_of_12_bytes, log, length));
+    print_verdict(floe_log_judge(all_of_16, sizeof all_of_16_bytes, log, length));
     print_verdict(floe_log_judge(set, set_len, empty, 9));
     print_verdict(floe_log_judge(faulty, faulty_len, nothing, 0));
 
@@ -243,10 +270,28 @@ static void logs(const uint8_t *set, size_t set_len, const uint8_t *faulty, size
 
     free(night);
     free(no_night);
-    free(all_of_12);
+    free(all_of_16);
     free(log);
     free(empty);
     free(spoilt);
+}
+
+/* AnyHit(8,16), whose table is the largest of a limit alone: the bytes of it as one number. */
+static void large_table(uint16_t *work, size_t entries, uint8_t *nothing) {
+    const uint8_t half_of_16_bytes[] = {0, 0, 0, 5, 1, 1, 0, 8, 16};
+    uint8_t *half_of_16 = lent(half_of_16_bytes, sizeof half_of_16_bytes);
+    floe_built needed = floe_build(half_of_16, sizeof half_of_16_bytes, work, entries, nothing, 0);
+    print_built(needed);
+    size_t length = needed.at;
+    uint8_t *table = (uint8_t *)block(length);
+    print_built(floe_build(half_of_16, sizeof half_of_16_bytes, work, entries, table, length));
+    print_checked(floe_check_table(table, length));
+    uint64_t sum = 0;
+    for (size_t i = 0; i < length; i++) sum = sum * 31 % 1000003 + table[i];
+    field("", sum);
+    puts("");
+    free(half_of_16);
+    free(table);
 }
 
 int main(void) {
@@ -259,7 +304,7 @@ int main(void) {
     uint8_t *set = lent(set_bytes, sizeof set_bytes);
     uint8_t *other = lent(other_bytes, sizeof other_bytes);
     uint8_t *faulty = lent(faulty_bytes, sizeof faulty_bytes);
-    uint8_t *all_of_12 = lent(all_of_12_bytes, sizeof all_of_12_bytes);
+    uint8_t *all_of_16 = lent(all_of_16_bytes, sizeof all_of_16_bytes);
     uint8_t *pattern = lent(pattern_bytes, sizeof pattern_bytes);
     uint8_t *faulty_pattern = lent(faulty_pattern_bytes, sizeof faulty_pattern_bytes);
     uint8_t *nothing = lent(set_bytes, 0);
@@ -275,7 +320,7 @@ int main(void) {
     puts("");
     print_written(floe_write_set(read.set, bytes, sizeof set_bytes - 1));
     print_written(floe_write_set(read.set, nothing, 0));
-    read.set.limits[1].k = 13;
+    read.set.limits[1].k = 17;
     print_written(floe_write_set(read.set, bytes, sizeof set_bytes));
     read.set.count = 9;
     print_written(floe_write_set(read.set, bytes, sizeof set_bytes));
@@ -283,7 +328,7 @@ int main(void) {
     puts("");
 
     print_verdict(floe_judge(set, sizeof set_bytes, pattern, sizeof pattern_bytes));
-    print_verdict(floe_judge(all_of_12, sizeof all_of_12_bytes, pattern, sizeof pattern_bytes));
+    print_verdict(floe_judge(all_of_16, sizeof all_of_16_bytes, pattern, sizeof pattern_bytes));
     print_verdict(floe_judge(set, sizeof set_bytes, nothing, 0));
     print_verdict(floe_judge(set, sizeof set_bytes, faulty_pattern, sizeof faulty_pattern_bytes));
     print_verdict(floe_judge(faulty, sizeof faulty_bytes, pattern, sizeof pattern_bytes));
@@ -292,15 +337,17 @@ int main(void) {
     print_comparison(floe_compare(set, sizeof set_bytes, set, sizeof set_bytes));
     print_comparison(floe_compare(set, sizeof set_bytes, faulty, sizeof faulty_bytes));
 
-    uint16_t *work = (uint16_t *)block(8192 * sizeof *work);
-    floe_built needed = floe_build(set, sizeof set_bytes, work, 8192, nothing, 0);
+    const size_t entries = 131072;
+    uint16_t *work = (uint16_t *)block(entries * sizeof *work);
+    floe_built needed = floe_build(set, sizeof set_bytes, work, entries, nothing, 0);
     print_built(needed);
-    print_built(floe_build(set, sizeof set_bytes, work, 8191, nothing, 0));
+    print_built(floe_build(set, sizeof set_bytes, work, entries - 1, nothing, 0));
     size_t length = needed.at;
     uint8_t *table = (uint8_t *)block(length);
-    print_built(floe_build(set, sizeof set_bytes, work, 8192, table, length));
+    print_built(floe_build(set, sizeof set_bytes, work, entries, table, length));
     print_bytes(table, length);
     puts("");
+    large_table(work, entries, nothing);
 
     print_checked(floe_check_table(table, length));
     print_checked(floe_check_table(nothing, 0));
@@ -323,6 +370,7 @@ int main(void) {
     print_asked(floe_guard_ask(guard, table, length));
 
     records(guard, set, sizeof set_bytes, faulty, sizeof faulty_bytes, table, length, nothing);
+    old_records(set, sizeof set_bytes, table, length);
 
     const size_t count = 3;
     floe_guard *row = (floe_guard *)block(count * sizeof *row);
@@ -349,7 +397,7 @@ int main(void) {
     free(set);
     free(other);
     free(faulty);
-    free(all_of_12);
+    free(all_of_16);
     free(pattern);
     free(faulty_pattern);
     free(nothing);

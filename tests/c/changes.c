@@ -25,6 +25,9 @@ static const floe_set sets[] = {
     {1, {{FLOE_ROW_HIT, 2, 7}}},
     {3, {{FLOE_ANY_HIT, 2, 5}, {FLOE_ROW_HIT, 1, 4}, {FLOE_ANY_MISS, 6, 12}}},
     {1, {{FLOE_ANY_MISS, 12, 12}}},
+    {2, {{FLOE_ANY_HIT, 3, 16}, {FLOE_ROW_MISS, 13, 0}}},
+    {1, {{FLOE_ROW_HIT, 3, 16}}},
+    {1, {{FLOE_ANY_MISS, 3, 16}}},
 };
 enum { SETS = sizeof sets / sizeof *sets };
 
@@ -113,6 +116,35 @@ static uint8_t *block(size_t bytes) {
     return block;
 }
 
+/* The same guard from a record that was written before, of version 1, into a block of its exact size: its last 11 outcomes,
+ * and hits in the places of the older ones. With a window of more than 12 jobs it is refused by 20. */
+static void change_from_old(floe_guard guard, const floe_set *limits, const uint8_t *set, size_t set_len,
+                            const uint8_t *table, size_t table_len) {
+    size_t length = FLOE_OLD_RECORD_SIZE(set_len), old_held = length - set_len - 14;
+    uint8_t *record = block(length);
+    record[0] = record[1] = record[2] = 0;
+    record[3] = (uint8_t)(length - 4);
+    record[4] = 1;
+    memcpy(record + 5, set, set_len);
+    for (size_t i = 0; i < old_held; i++) record[5 + set_len + i] = guard.outcomes[FLOE_HELD - old_held + i];
+    for (int i = 0; i < 8; i++) record[length - 9 + (size_t)i] = (uint8_t)(guard.count >> (56 - 8 * i));
+    record[length - 1] = guard.lost;
+    bool longer = false;
+    for (uint64_t i = 0; i < limits->count; i++)
+        longer |= (limits->limits[i].kind == FLOE_ROW_MISS ? limits->limits[i].x : limits->limits[i].k) > 12;
+    floe_started read = floe_carry_read(record, length, table, table_len);
+    if (longer) {
+        HOLDS(read.refused == FLOE_REFUSED_OLD_RECORD && read.at == 0);
+        nothing_told(read.guard);
+    } else {
+        HOLDS(read.refused == FLOE_ACCEPTED && read.guard.state == guard.state);
+        HOLDS(read.guard.lost == guard.lost && read.guard.count == guard.count);
+        for (size_t i = 0; i < FLOE_HELD; i++)
+            HOLDS(read.guard.outcomes[i] == (i < FLOE_HELD - old_held || guard.outcomes[i]));
+    }
+    free(record);
+}
+
 /* Off and on again. Sometimes the buffer is a byte short first, and sometimes a record that was cut is read first. */
 static floe_guard change(floe_guard guard, const uint8_t *set, size_t set_len, const uint8_t *table, size_t table_len) {
     size_t length = FLOE_RECORD_SIZE(set_len);
@@ -186,6 +218,7 @@ static void operate(floe_guard *row, size_t job, story *s, const floe_set *limit
         floe_guard guard = row[job];
         memset(&row[job], 0, sizeof row[job]);
         row[job] = change(guard, set, set_len, table, table_len);
+        change_from_old(guard, limits, set, set_len, table, table_len);
         changes++;
         changes_lost += guard.lost;
     }

@@ -25,6 +25,10 @@ static void fail(int line, const char *fact) {
 #error "FLOE_RECORD_SIZE is a number that the preprocessor can compare"
 #endif
 
+#if FLOE_OLD_RECORD_SIZE(9) != 34 || FLOE_OLD_RECORD_SIZE(FLOE_LONGEST_SET) > FLOE_LONGEST_RECORD
+#error "FLOE_OLD_RECORD_SIZE is a number that the preprocessor can compare"
+#endif
+
 static uint16_t work[FLOE_WORK_ENTRIES];
 static uint8_t table[FLOE_LONGEST_TABLE + 4];
 
@@ -42,7 +46,8 @@ static floe_limit limit(int kind, int x, int k) {
 /* A table of n states, all of which lead to state 0. */
 static size_t table_of(size_t n) {
     size_t after = 3 + 4 * n;
-    const uint8_t head[] = {0, 0, (uint8_t)(after >> 8), (uint8_t)after, 1, (uint8_t)(n >> 8), (uint8_t)n};
+    const uint8_t head[] = {0, (uint8_t)(after >> 16), (uint8_t)(after >> 8), (uint8_t)after, 1, (uint8_t)(n >> 8),
+                            (uint8_t)n};
     memset(table, 0, sizeof table);
     memcpy(table, head, sizeof head);
     return 4 + after;
@@ -74,6 +79,7 @@ static void first_jobs(void) {
         {FLOE_ROW_HIT, 2, 5, 3, 3, 0},
         {FLOE_ANY_MISS, 2, 5, 3, 3, -1},
         {FLOE_ANY_HIT, 12, 12, 1, 1, -10},
+        {FLOE_ANY_HIT, FLOE_LONGEST_WINDOW, FLOE_LONGEST_WINDOW, 1, 1, 2 - FLOE_LONGEST_WINDOW},
     };
     const uint8_t misses[] = {FLOE_MISS, FLOE_MISS, FLOE_MISS};
     for (size_t i = 0; i < sizeof lost / sizeof *lost; i++) {
@@ -102,9 +108,15 @@ static void sizes(void) {
     most.count = FLOE_MOST_LIMITS + 1;
     HOLDS(floe_write_set(most, set, sizeof set).refused == FLOE_REFUSED_LIMIT_COUNT);
 
-    HOLDS(table_of(2048) == FLOE_LONGEST_TABLE);
-    HOLDS(floe_check_table(table, FLOE_LONGEST_TABLE).states == 2048);
-    HOLDS(floe_check_table(table, table_of(2049)).refused == FLOE_REFUSED_STATES);
+    HOLDS(table_of(32768) == FLOE_LONGEST_TABLE);
+    HOLDS(floe_check_table(table, FLOE_LONGEST_TABLE).states == 32768);
+    HOLDS(floe_check_table(table, table_of(32769)).refused == FLOE_REFUSED_STATES);
+    /* All entries of the work area, and no more, come back as zeros. */
+    static uint16_t used[FLOE_WORK_ENTRIES + 1];
+    memset(used, 7, sizeof used);
+    HOLDS(floe_build(set, FLOE_LONGEST_SET, used, FLOE_WORK_ENTRIES + 1, table, sizeof table).refused == FLOE_ACCEPTED);
+    for (size_t i = 0; i < FLOE_WORK_ENTRIES; i++) HOLDS(used[i] == 0);
+    HOLDS(used[FLOE_WORK_ENTRIES] == 0x0707);
 
     floe_guard row[FLOE_MOST_GUARDS + 1];
     for (size_t i = 0; i <= FLOE_MOST_GUARDS; i++) row[i] = floe_guard_new();
@@ -185,7 +197,7 @@ static void records(void) {
 
     HOLDS(floe_carry_read(record, FLOE_RECORD_SIZE(0) - 1, table, length).refused == FLOE_REFUSED_RECORD);
     HOLDS(floe_carry_read(record, record_len - 1, table, length).refused == FLOE_REFUSED_RECORD);
-    const uint8_t no_set[FLOE_RECORD_SIZE(0)] = {0, 0, 0, FLOE_RECORD_SIZE(0) - 4, 1};
+    const uint8_t no_set[FLOE_RECORD_SIZE(0)] = {0, 0, 0, FLOE_RECORD_SIZE(0) - 4, 2};
     HOLDS(floe_carry_read(no_set, sizeof no_set, table, length).refused == FLOE_REFUSED_SET_LENGTH);
     record[record_len - 1] = 2;
     HOLDS(floe_carry_read(record, record_len, table, length).refused == FLOE_REFUSED_LOST_BYTE);
@@ -199,6 +211,23 @@ static void records(void) {
     HOLDS(floe_carry_read(record, record_len, table, length).guard.lost);
 }
 
+/* FLOE_OLD_RECORD_SIZE, and FLOE_REFUSED_OLD_RECORD for the shortest window that is too long for such a record. */
+static void old_records(void) {
+    uint8_t record[FLOE_OLD_RECORD_SIZE(9)] = {0, 0, 0, sizeof record - 4, 1, 0, 0, 0, 5, 1, 1, FLOE_ANY_HIT, 1, 12};
+    memset(record + 14, FLOE_HIT, sizeof record - 14 - 9);
+    size_t length = table_of(1);
+    HOLDS(floe_carry_read(record, sizeof record, table, length).refused == FLOE_ACCEPTED);
+    HOLDS(floe_carry_read(record, sizeof record - 1, table, length).refused == FLOE_REFUSED_RECORD);
+    record[13] = 13;
+    HOLDS(floe_carry_read(record, sizeof record, table, length).refused == FLOE_REFUSED_OLD_RECORD);
+    const uint8_t no_set[FLOE_OLD_RECORD_SIZE(0)] = {0, 0, 0, FLOE_OLD_RECORD_SIZE(0) - 4, 1};
+    HOLDS(floe_carry_read(no_set, sizeof no_set, table, length).refused == FLOE_REFUSED_SET_LENGTH);
+    const uint8_t shorter[FLOE_OLD_RECORD_SIZE(0) - 1] = {0, 0, 0, FLOE_OLD_RECORD_SIZE(0) - 5, 1};
+    HOLDS(floe_carry_read(shorter, sizeof shorter, table, length).refused == FLOE_REFUSED_RECORD);
+    int once = 8;
+    HOLDS(FLOE_OLD_RECORD_SIZE(once++) == 8 + FLOE_OLD_RECORD_SIZE(0) && once == 9);
+}
+
 static void refusals(void) {
     const uint8_t version_2[] = {0, 0, 0, 5, 2, 1, FLOE_ANY_HIT, 1, 2}, two_limits[] = {0, 0, 0, 5, 1, 2, 0, 1, 2};
     const uint8_t none[] = {0, 0, 0, 2, 1, 0}, one_of_two[] = {0, 0, 0, 5, 1, 1, FLOE_ANY_HIT, 1, 2}, no_outcome[] = {2};
@@ -208,12 +237,12 @@ static void refusals(void) {
     HOLDS(floe_read_set(version_2, sizeof version_2).refused == FLOE_REFUSED_SET_VERSION);
     HOLDS(floe_read_set(none, sizeof none).refused == FLOE_REFUSED_LIMIT_COUNT);
     HOLDS(floe_read_set(two_limits, sizeof two_limits).refused == FLOE_REFUSED_LIMITS_LENGTH);
-    HOLDS(refused(limit(FLOE_ANY_HIT, 1, 13)) == FLOE_REFUSED_LIMIT_K);
+    HOLDS(refused(limit(FLOE_ANY_HIT, 1, FLOE_LONGEST_WINDOW + 1)) == FLOE_REFUSED_LIMIT_K);
     HOLDS(refused(limit(FLOE_ANY_HIT, 3, 2)) == FLOE_REFUSED_LIMIT_X);
     HOLDS(refused(limit(FLOE_ROW_MISS, 0, 0)) == FLOE_REFUSED_LIMIT_X);
     HOLDS(refused(limit(FLOE_ROW_MISS, 1, 0)) == FLOE_ACCEPTED);
-    HOLDS(refused(limit(FLOE_ROW_MISS, 12, 0)) == FLOE_ACCEPTED);
-    HOLDS(refused(limit(FLOE_ROW_MISS, 13, 0)) == FLOE_REFUSED_LIMIT_X);
+    HOLDS(refused(limit(FLOE_ROW_MISS, FLOE_LONGEST_WINDOW, 0)) == FLOE_ACCEPTED);
+    HOLDS(refused(limit(FLOE_ROW_MISS, FLOE_LONGEST_WINDOW + 1, 0)) == FLOE_REFUSED_LIMIT_X);
     HOLDS(floe_build(one_of_two, sizeof one_of_two, work, FLOE_WORK_ENTRIES, table, 0).refused == FLOE_REFUSED_ROOM);
     size_t length = table_of(1);
     HOLDS(floe_check_table(table, length - 1).refused == FLOE_REFUSED_TABLE_LENGTH);
@@ -241,6 +270,8 @@ int main(void) {
     SAY(FLOE_RECORD_SIZE(0));
     SAY(FLOE_RECORD_SIZE(9));
     SAY(FLOE_LONGEST_RECORD);
+    SAY(FLOE_OLD_RECORD_SIZE(0));
+    SAY(FLOE_OLD_RECORD_SIZE(9));
     SAY(FLOE_MISS);
     SAY(FLOE_HIT);
     SAY(FLOE_LOG_SIZE(0));
@@ -252,6 +283,7 @@ int main(void) {
     answers();
     logs();
     records();
+    old_records();
     refusals();
     puts("every name is as the library has it");
     return 0;

@@ -1,7 +1,7 @@
 /*
  * How much stack each function uses: it is called on a stack that was painted before, and what is no longer painted was
  * used. Counted from a call that does nothing, with the record of the answer, the most of several calls: one that is
- * answered and one that is refused, and of verdicts one that is lost besides. Linked with -z now, so that the dynamic
+ * answered and one that is refused, of verdicts one that is lost besides, and of records one of version 1. Linked with -z now, so that the dynamic
  * linker's own stack isn't counted.
  */
 #define _XOPEN_SOURCE 700
@@ -16,8 +16,8 @@ static ucontext_t outside, inside;
 
 static const floe_set all_kinds = {8, {{FLOE_ANY_HIT, 3, 9}, {FLOE_ROW_HIT, 2, 9}, {FLOE_ANY_MISS, 7, 12},
                                        {FLOE_ROW_MISS, 4, 0}, {FLOE_ANY_HIT, 2, 10}, {FLOE_ROW_HIT, 1, 5},
-                                       {FLOE_ANY_MISS, 8, 11}, {FLOE_ROW_MISS, 5, 0}}};
-static uint8_t set[FLOE_LONGEST_SET], other[] = {0, 0, 0, 5, 1, 1, FLOE_ANY_HIT, 6, 12}, table[FLOE_LONGEST_TABLE];
+                                       {FLOE_ANY_MISS, 12, 16}, {FLOE_ROW_MISS, 5, 0}}};
+static uint8_t set[FLOE_LONGEST_SET], other[] = {0, 0, 0, 5, 1, 1, FLOE_ANY_HIT, 8, 16}, table[FLOE_LONGEST_TABLE];
 static uint16_t work[FLOE_WORK_ENTRIES];
 static size_t set_len, table_len;
 static const uint8_t pattern[] = {0, 0, 1, 0, 1, 1, 0, 0, 1, 0, 1, 1, 1, 1, 0, 1, 0, 1, 1, 0};
@@ -27,6 +27,9 @@ static floe_guard row[FLOE_MOST_GUARDS], guard;
 static uint8_t night[FLOE_LOG_SIZE(sizeof pattern)], spare[FLOE_LOG_SIZE(sizeof pattern)];
 static uint8_t record[FLOE_LONGEST_RECORD], unwalked[FLOE_LONGEST_RECORD], spare_record[FLOE_LONGEST_RECORD];
 static size_t record_len;
+/* AnyHit(1,2) with nothing told, of version 1; on any table of a set its hits can be walked. */
+static const uint8_t old_record[FLOE_OLD_RECORD_SIZE(9)] = {0, 0, 0, 30, 1, 0, 0, 0, 5, 1, 1, 0, 1, 2, 1, 1, 1, 1, 1, 1,
+                                                            1, 1, 1, 1, 1};
 static uint8_t lost_night[FLOE_LOG_SIZE(sizeof lost)];
 
 /* Each call of a function is one more of its name; answers are used, so that the calls stay. */
@@ -64,6 +67,7 @@ CALL(floe_carry_write, 0, floe_carry_write(guard, set, set_len, spare_record, si
 CALL(floe_carry_write, 1, floe_carry_write(guard, set, set_len, spare_record, 0))
 CALL(floe_carry_read, 0, floe_carry_read(record, record_len, table, table_len))
 CALL(floe_carry_read, 1, floe_carry_read(unwalked, record_len, table, table_len))
+CALL(floe_carry_read, 2, floe_carry_read(old_record, sizeof old_record, table, table_len))
 CALL(floe_log_write, 0, floe_log_write(pattern, sizeof pattern, spare, sizeof spare))
 CALL(floe_log_write, 1, floe_log_write(pattern, sizeof pattern, spare, 0))
 CALL(floe_log_open, 0, floe_log_open(night, sizeof night))
@@ -100,7 +104,7 @@ static void say(const char *name, size_t most) {
 }
 
 #define SAY(name) say(#name, more(used(name##_0), used(name##_1)))
-#define SAY_VERDICT(name) say(#name, more(more(used(name##_0), used(name##_1)), used(name##_2)))
+#define SAY_THREE(name) say(#name, more(more(used(name##_0), used(name##_1)), used(name##_2)))
 
 int main(void) {
     set_len = floe_write_set(all_kinds, set, sizeof set).length;
@@ -114,13 +118,14 @@ int main(void) {
     if (floe_carry_read(record, record_len, table, table_len).refused != FLOE_ACCEPTED) return 1;
     for (size_t i = 0; i < record_len; i++) unwalked[i] = i < 5 + set_len || i >= 5 + set_len + FLOE_HELD ? record[i] : 0;
     if (floe_carry_read(unwalked, record_len, table, table_len).refused != FLOE_REFUSED_WALK) return 1;
+    if (floe_carry_read(old_record, sizeof old_record, table, table_len).refused != FLOE_ACCEPTED) return 1;
     if (table_len == 0 || night_len != sizeof night || lost_len != sizeof lost_night) return 1;
     if (floe_judge(set, set_len, pattern, sizeof pattern).kept != 1) return 1;
     floe_verdict verdict = floe_judge(set, set_len, lost, sizeof lost);
     if (verdict.job != sizeof lost || all_kinds.limits[verdict.limit].kind != FLOE_ROW_HIT) return 1;
     SAY(floe_read_set);
     SAY(floe_write_set);
-    SAY_VERDICT(floe_judge);
+    SAY_THREE(floe_judge);
     SAY(floe_compare);
     SAY(floe_build);
     SAY(floe_check_table);
@@ -132,10 +137,10 @@ int main(void) {
     SAY(floe_row_ask);
     SAY(floe_row_tell);
     SAY(floe_carry_write);
-    SAY(floe_carry_read);
+    SAY_THREE(floe_carry_read);
     SAY(floe_log_write);
     SAY(floe_log_open);
     SAY(floe_log_next);
-    SAY_VERDICT(floe_log_judge);
+    SAY_THREE(floe_log_judge);
     return 0;
 }

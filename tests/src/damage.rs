@@ -1,12 +1,11 @@
 //! Bytes of a set, a table, a log or a record with faults in them, often several at once.
 
 use crate::draw::Draw;
-use crate::reference::carry::{record, HEAD, TAIL};
-use crate::reference::guard::HELD;
+use crate::reference::carry::{old_record, record, HEAD, OLD_TAIL, TAIL};
 use crate::reference::{night_log, sets};
 
 /// Values next to a bound of the rules, and those that a wrong width or sign would confuse.
-const TELLING: [u8; 16] = [0, 1, 2, 3, 4, 5, 7, 8, 9, 11, 12, 13, 16, 127, 128, 255];
+const TELLING: [u8; 18] = [0, 1, 2, 3, 4, 5, 7, 8, 9, 11, 12, 13, 15, 16, 17, 127, 128, 255];
 
 /// One to four edits. Half of the results get a true length field again, so that the later tests are reached.
 pub fn damage(draw: &mut Draw, bytes: &mut Vec<u8>) {
@@ -49,10 +48,10 @@ pub fn faulty_set(draw: &mut Draw) -> Vec<u8> {
             limit.kind = draw.of(&[4, 5, 128, 255]);
         }
         if draw.one_in(8) {
-            limit.k = draw.of(&[0, 1, 13, 255]);
+            limit.k = draw.of(&[0, 1, 16, 17, 255]);
         }
         if draw.one_in(8) {
-            limit.x = draw.of(&[limit.k.saturating_add(1), 0, 12, 13, 255]);
+            limit.x = draw.of(&[limit.k.saturating_add(1), 0, 16, 17, 255]);
         }
     }
     let mut bytes = sets::bytes(&limits);
@@ -143,22 +142,34 @@ pub fn spoilt_log(draw: &mut Draw) -> Vec<u8> {
     log
 }
 
-/// A record in which 13, 19, a fault of the set and each of the three faults of 18 is present by its own chance.
+/// A record of either version.
+fn drawn_record(draw: &mut Draw, set: &[u8]) -> Vec<u8> {
+    let guard = draw.guard(1);
+    if draw.one_in(2) {
+        old_record(guard, set)
+    } else {
+        record(guard, set)
+    }
+}
+
+/// A record in which 13, 19, 20, a fault of the set and each of the three faults of 18 is present by its own chance.
 pub fn faulty_record(draw: &mut Draw) -> Vec<u8> {
     let set = if draw.one_in(4) { faulty_set(draw) } else { sets::bytes(&draw.set()) };
-    let mut bytes = record(draw.guard(1), &set);
-    let outcomes = bytes.len() - TAIL;
+    let mut bytes = drawn_record(draw, &set);
+    let tail = bytes.len() - HEAD - set.len();
     while draw.one_in(4) {
-        bytes[outcomes + draw.below(HELD)] = draw.of(&[2, 3, 128, 255]);
+        let place = draw.below(tail - 9);
+        bytes[HEAD + set.len() + place] = draw.of(&[2, 3, 128, 255]);
     }
     if draw.one_in(5) {
         *bytes.last_mut().expect("a record has a tail") = draw.of(&[2, 3, 128, 255]);
     }
     if draw.one_in(8) {
-        bytes[4] = draw.of(&[0, 2, 129]);
+        bytes[4] = draw.of(&[0, 1, 2, 3, 129]);
     }
     if draw.one_in(8) {
-        let length = draw.of(&[4, HEAD + TAIL - 1, HEAD + TAIL, bytes.len() - 1, bytes.len() + 1]);
+        let least = draw.of(&[HEAD + OLD_TAIL, HEAD + TAIL]);
+        let length = draw.of(&[4, least - 1, least, bytes.len() - 1, bytes.len() + 1]);
         bytes.resize(length, 0);
         mend_length(&mut bytes);
     }
@@ -173,7 +184,8 @@ pub fn spoilt_record(draw: &mut Draw) -> Vec<u8> {
     if draw.one_in(2) {
         return faulty_record(draw);
     }
-    let mut bytes = record(draw.guard(1), &sets::bytes(&draw.set()));
+    let set = sets::bytes(&draw.set());
+    let mut bytes = drawn_record(draw, &set);
     damage(draw, &mut bytes);
     bytes
 }

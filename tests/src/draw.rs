@@ -3,7 +3,7 @@
 use std::env;
 
 use crate::reference::guard::{Guard, HELD};
-use crate::reference::limits::Limit;
+use crate::reference::limits::{Limit, LONGEST_WINDOW, OLD_LONGEST_WINDOW};
 use crate::reference::{HIT, MISS};
 
 /// Marsaglia's xorshift64, with a multiplication so that the low bits are as good as the high ones.
@@ -40,43 +40,62 @@ impl Draw {
 
     /// A limit with any allowed numbers.
     pub fn limit(&mut self) -> Limit {
+        self.limit_within(LONGEST_WINDOW)
+    }
+
+    /// One whose window has at most so many jobs.
+    fn limit_within(&mut self, longest: usize) -> Limit {
         let kind = self.below(4) as u8;
         if kind == 3 {
-            return Limit { kind, x: 1 + self.below(12) as u8, k: 0 };
+            return Limit { kind, x: 1 + self.below(longest) as u8, k: 0 };
         }
-        let k = 1 + self.below(12);
+        let k = 1 + self.below(longest);
         Limit { kind, x: self.below(k + 1) as u8, k: k as u8 }
     }
 
     /// A limit that leaves room for misses: eight limits of any numbers mostly keep hits alone.
     pub fn mild_limit(&mut self) -> Limit {
+        self.mild_limit_within(LONGEST_WINDOW)
+    }
+
+    fn mild_limit_within(&mut self, longest: usize) -> Limit {
         let kind = self.below(4) as u8;
         let some = self.below(4) as u8;
         if kind == 3 {
             return Limit { kind, x: 2 + some, k: 0 };
         }
-        let k = 6 + self.below(7) as u8;
+        let k = (6 + self.below(longest - 5)) as u8;
         Limit { kind, x: if kind == 2 { k - 1 - some } else { 1 + some.min(2) }, k }
     }
 
-    /// A set of 1 to 8 limits.
+    /// A set of 1 to 8 limits, one in two with no window that was too long before.
     pub fn set(&mut self) -> Vec<Limit> {
+        let longest = self.of(&[OLD_LONGEST_WINDOW, LONGEST_WINDOW]);
+        self.set_within(longest)
+    }
+
+    pub fn set_within(&mut self, longest: usize) -> Vec<Limit> {
         let count = 1 + self.below(8);
         let mild = !self.one_in(4);
-        (0..count).map(|_| if mild { self.mild_limit() } else { self.limit() }).collect()
+        let limit = |draw: &mut Draw| if mild { draw.mild_limit_within(longest) } else { draw.limit_within(longest) };
+        (0..count).map(|_| limit(self)).collect()
     }
 
     /// A set that differs little from another, so that the first pattern between them is long.
     pub fn neighbour(&mut self, set: &[Limit]) -> Vec<Limit> {
+        self.neighbour_within(LONGEST_WINDOW, set)
+    }
+
+    pub fn neighbour_within(&mut self, longest: usize, set: &[Limit]) -> Vec<Limit> {
         let mut near = set.to_vec();
         let place = self.below(near.len());
         match self.below(4) {
             0 if near.len() > 1 => drop(near.remove(place)),
-            1 if near.len() < 8 => near.insert(place, self.mild_limit()),
+            1 if near.len() < 8 => near.insert(place, self.mild_limit_within(longest)),
             2 => near.swap(0, place),
             _ => {
                 let limit = &mut near[place];
-                let most = if limit.kind == 3 { 12 } else { limit.k };
+                let most = if limit.kind == 3 { longest as u8 } else { limit.k };
                 limit.x = if limit.x == most { most - 1 } else { limit.x + 1 };
             }
         }
@@ -88,7 +107,7 @@ impl Draw {
         let within = self.below(states) as u16;
         let rarity = self.of(&[1, 2, 5, 100]);
         Guard {
-            state: if self.one_in(8) { self.of(&[6, 7, 255, 256, 2047, 65_535]) } else { within },
+            state: if self.one_in(8) { self.of(&[6, 7, 255, 256, 2047, 32_767, 65_535]) } else { within },
             lost: self.one_in(3),
             outcomes: [(); HELD].map(|()| !self.one_in(rarity)),
             count: self.count(),
@@ -100,7 +119,7 @@ impl Draw {
         let any = self.number() << 16 | self.number();
         let width = self.of(&[8, 16, 24, 31, 32, 48, 63]);
         let edge = 1 << width;
-        self.of(&[0, 1, 11, any, any, edge - 1, edge, edge + 1, u64::MAX - 1, u64::MAX])
+        self.of(&[0, 1, HELD as u64, any, any, edge - 1, edge, edge + 1, u64::MAX - 1, u64::MAX])
     }
 
     /// Outcomes of which one in `rarity` is a miss.

@@ -1,7 +1,7 @@
 //! The safe face in bindings/rust against the archive's plain records: each of its answers, put back into a record, is
 //! the record that the same call gives.
 
-use floelinnet::{log_size, record_size, Comparison, Guard, LogReader, Refused, Verdict};
+use floelinnet::{log_size, record_size, Comparison, Guard, LogReader, Refused, Verdict, LONGEST_TABLE, WORK_ENTRIES};
 use floelinnet_tests::damage::{damage, drawn_table, spoilt_log, spoilt_record, spoilt_set};
 use floelinnet_tests::draw::{cases, Draw};
 use floelinnet_tests::reference::compare::RefusedSet;
@@ -55,7 +55,7 @@ fn drawn_set(draw: &mut Draw) -> Vec<u8> {
 fn sets_verdicts_and_comparisons() {
     let mut draw = Draw::new(81);
     let mut seen = [0; 14];
-    for _ in 0..cases(20_000) {
+    for _ in 0..cases(5_000) {
         let set = drawn_set(&mut draw);
         let answer = floelinnet::read_set(&set).map(|set| set.limits().map(limit).collect());
         assert_eq!(expected::set_read(answer.map_err(refusal)), floe::sets::read_set(&set), "{set:02X?}");
@@ -130,10 +130,10 @@ fn sets_made_of_limits() {
 fn builds() {
     let mut draw = Draw::new(82);
     let mut seen = [0; 10];
-    for _ in 0..cases(2_000) {
+    for _ in 0..cases(1_000) {
         let set = drawn_set(&mut draw);
-        let mut work = vec![7; draw.of(&[8191, 8192, 8192, 8193])];
-        let mut table = vec![7; draw.of(&[0, 20, 100, 8199])];
+        let mut work = vec![7; draw.of(&[WORK_ENTRIES - 1, WORK_ENTRIES, WORK_ENTRIES, WORK_ENTRIES + 1])];
+        let mut table = vec![7; draw.of(&[0, 20, 100, LONGEST_TABLE])];
         let (mut plain_work, mut plain_table) = (work.clone(), table.clone());
         let answer = floelinnet::build(&set, &mut work, &mut table).map(|length| table[..length].to_vec());
         let found = floe::builder::build(&set, &mut plain_work, &mut plain_table);
@@ -212,7 +212,7 @@ fn records() {
         assert_eq!(expected::started(answer), found, "{record:02X?} on {table:02X?}");
         seen[found.refused as usize] += 1;
     }
-    let numbers = [0, 1, 2, 3, 4, 5, 6, 7, 9, 10, 11, 12, 13, 18, 19, 25];
+    let numbers = [0, 1, 2, 3, 4, 5, 6, 7, 9, 10, 11, 12, 13, 18, 19, 20, 25];
     assert!(numbers.iter().all(|&number| seen[number] > 50), "{seen:?}");
 }
 

@@ -3,17 +3,17 @@
 use floelinnet_tests::damage::spoilt_set;
 use floelinnet_tests::draw::{cases, Draw};
 use floelinnet_tests::reference::limits::allowed_limits;
+use floelinnet_tests::reference::table::{LONGEST_TABLE, WORK_ENTRIES};
 use floelinnet_tests::reference::{sets, table};
 use floelinnet_tests::{expected, floe};
 
-const WORK_ENTRIES: usize = 8192;
 /// Places on both sides of a lent buffer that the archive must not reach.
 const MARGIN: usize = 16;
 
 /// Builds in buffers full of chance numbers. "Nothing that was lent is written, with one exception. A builder that is
-/// past 8, refused by none of 1 to 8, gives the first 8,192 entries of the work area back as zeros, where it builds and
-/// where it refuses by 9." "Refused or not, nothing is ever written to the entries of the work area after those 8,192,
-/// to the bytes of a table buffer after 7+4n".
+/// past 8, refused by none of 1 to 8, gives the first 131,072 entries of the work area back as zeros, where it builds and
+/// where it refuses by 9." Refused or not, nothing is ever written to the entries of the work area after those, "to the
+/// bytes of a table buffer after 7+4n".
 fn agree(draw: &mut Draw, set: &[u8], work_entries: usize, room: usize) -> u64 {
     let mut work: Vec<u16> = (0..work_entries + 2 * MARGIN).map(|_| draw.number() as u16).collect();
     let mut bytes: Vec<u8> = (0..room + 2 * MARGIN).map(|_| draw.byte()).collect();
@@ -34,23 +34,35 @@ fn agree(draw: &mut Draw, set: &[u8], work_entries: usize, room: usize) -> u64 {
     built.refused
 }
 
+/// Of windows up to 16: "the first 131,072 entries" are all cleared, for the shortest too.
 #[test]
 fn every_limit_alone() {
     let mut draw = Draw::new(41);
     for limit in allowed_limits() {
-        assert_eq!(agree(&mut draw, &sets::bytes(&[limit]), WORK_ENTRIES, 8199), 0);
+        assert_eq!(agree(&mut draw, &sets::bytes(&[limit]), WORK_ENTRIES, LONGEST_TABLE), 0);
     }
+}
+
+/// AnyHit(8,16) has 12,870 states: its table into a buffer that is just long enough, and one byte too short.
+#[test]
+fn the_largest_table_of_a_limit_alone() {
+    let mut draw = Draw::new(45);
+    let set = [0, 0, 0, 5, 1, 1, 0, 8, 16];
+    let length = 7 + 4 * 12_870;
+    assert_eq!(agree(&mut draw, &set, WORK_ENTRIES, length), 0);
+    assert_eq!(agree(&mut draw, &set, WORK_ENTRIES, length - 1), 9);
+    assert_eq!(agree(&mut draw, &set, WORK_ENTRIES - 1, length), 8);
 }
 
 #[test]
 fn random_sets_and_rooms() {
     let mut draw = Draw::new(42);
     let mut refused = 0;
-    for _ in 0..cases(300) {
+    for _ in 0..cases(200) {
         let limits = draw.set();
         let length = 7 + 4 * table::states(&limits).len();
-        let room = draw.of(&[0, 6, length - 1, length, length + 1, 8199]);
-        let entries = draw.of(&[WORK_ENTRIES, WORK_ENTRIES + 1, 20_000]);
+        let room = draw.of(&[0, 6, length - 1, length, length + 1, LONGEST_TABLE]);
+        let entries = draw.of(&[WORK_ENTRIES, WORK_ENTRIES + 1, WORK_ENTRIES + 5000]);
         refused += agree(&mut draw, &sets::bytes(&limits), entries, room) / 9;
     }
     assert!(refused > 20, "{refused}");
@@ -60,7 +72,7 @@ fn random_sets_and_rooms() {
 fn refused_sets_and_work_areas() {
     let mut draw = Draw::new(43);
     let mut seen = [0; 10];
-    for _ in 0..cases(4_000) {
+    for _ in 0..cases(1_500) {
         let set = spoilt_set(&mut draw);
         let entries = draw.of(&[0, 1, WORK_ENTRIES - 1, WORK_ENTRIES]);
         let room = draw.of(&[0, 7, 100]);
@@ -71,7 +83,7 @@ fn refused_sets_and_work_areas() {
 
 /// Builds with room for every set.
 fn table_of(set: &[u8]) -> Vec<u8> {
-    let mut bytes = vec![0; 8199];
+    let mut bytes = vec![0; LONGEST_TABLE];
     let built = floe::builder::build(set, &mut vec![0; WORK_ENTRIES], &mut bytes);
     assert_eq!(built.refused, 0);
     bytes.truncate(built.length as usize);
@@ -82,7 +94,7 @@ fn table_of(set: &[u8]) -> Vec<u8> {
 #[test]
 fn walked_against_the_verdict() {
     let mut draw = Draw::new(44);
-    for _ in 0..cases(3_000) {
+    for _ in 0..cases(800) {
         let set = sets::bytes(&draw.set());
         let table = table_of(&set);
         assert_eq!(floe::table::check_table(&table).refused, 0);

@@ -1,40 +1,68 @@
 //! floe_compare against the reference.
 
-use std::collections::HashSet;
-
 use floelinnet_tests::damage::spoilt_set;
 use floelinnet_tests::draw::{cases, Draw};
 use floelinnet_tests::pages::pages;
-use floelinnet_tests::reference::compare::{compare, read_both};
-use floelinnet_tests::reference::limits::{allowed_limits, Limit};
+use floelinnet_tests::reference::compare::{between_tables, between_within, read_both, Between};
+use floelinnet_tests::reference::limits::{
+    allowed_limits, limits_within, width, Limit, LONGEST_WINDOW, OLD_LONGEST_WINDOW,
+};
 use floelinnet_tests::reference::{sets, table};
 use floelinnet_tests::{expected, floe};
 
+const SHORT: usize = 5;
+
 /// Both answers agree; gives the length of the pattern between the sets.
-fn agree(a: &[Limit], b: &[Limit]) -> usize {
-    let between = pages().between(a, b).map(<[u8]>::to_vec);
+fn agree(a: &[Limit], b: &[Limit], between: Between) -> usize {
     let want = expected::comparison(Ok(between));
     assert_eq!(floe::compare::compare(&sets::bytes(a), &sets::bytes(b)), want, "compare {a:?} with {b:?}");
     want.length as usize
 }
 
+fn agree_by_pages(a: &[Limit], b: &[Limit]) -> usize {
+    agree(a, b, pages().between(a, b).map(<[u8]>::to_vec))
+}
+
+/// By the tables: "B keeps every pattern that A keeps", those of more than 16 jobs too.
+fn agree_by_tables(a: &[Limit], b: &[Limit]) -> usize {
+    agree(a, b, between_tables(&table::states(a), &table::states(b)))
+}
+
+/// All with windows of at most 5 jobs. A comparison that covers goes through all histories, however short the windows, so
+/// these are no quicker than others.
 #[test]
-fn every_limit_with_every_limit() {
-    let limits = allowed_limits();
+fn every_short_limit_with_every_short_limit() {
+    let limits = limits_within(SHORT);
     for &a in &limits {
         for &b in &limits {
-            agree(&[a], &[b]);
+            agree_by_pages(&[a], &[b]);
         }
     }
 }
 
+/// Each limit with a longer window with one that is near, both ways, and with any other.
+#[test]
+fn every_longer_limit_with_some() {
+    let mut draw = Draw::new(25);
+    let limits = allowed_limits();
+    let mut lengths = [0; LONGEST_WINDOW + 1];
+    for &a in limits.iter().filter(|&&limit| width(limit) > SHORT) {
+        let same_window: Vec<Limit> = limits.iter().copied().filter(|&b| width(b).abs_diff(width(a)) < 2).collect();
+        let (near, other) = (draw.of(&same_window), draw.of(&limits));
+        for (a, b) in [(a, near), (near, a), (a, other)] {
+            lengths[agree_by_tables(&[a], &[b])] += 1;
+        }
+    }
+    assert!(lengths.iter().all(|&times| times > 0), "lengths of patterns between: {lengths:?}");
+}
+
 /// A set, and one that is drawn afresh, differs little or is a part of it.
-fn pair(draw: &mut Draw) -> (Vec<Limit>, Vec<Limit>) {
-    let a = draw.set();
+fn pair(draw: &mut Draw, longest: usize) -> (Vec<Limit>, Vec<Limit>) {
+    let a = draw.set_within(longest);
     let b = match draw.below(4) {
-        0 => draw.set(),
+        0 => draw.set_within(longest),
         1 => a[..1 + draw.below(a.len())].to_vec(),
-        _ => draw.neighbour(&a),
+        _ => draw.neighbour_within(longest, &a),
     };
     if draw.one_in(2) {
         (a, b)
@@ -46,55 +74,33 @@ fn pair(draw: &mut Draw) -> (Vec<Limit>, Vec<Limit>) {
 #[test]
 fn random_pairs() {
     let mut draw = Draw::new(21);
-    let mut lengths = [0; 13];
-    for _ in 0..cases(60_000) {
-        let (a, b) = pair(&mut draw);
-        lengths[agree(&a, &b)] += 1;
+    let mut lengths = [0; OLD_LONGEST_WINDOW + 1];
+    for _ in 0..cases(1_000) {
+        let (a, b) = pair(&mut draw, OLD_LONGEST_WINDOW);
+        lengths[agree_by_pages(&a, &b)] += 1;
     }
-    assert!(lengths.iter().all(|&times| times > 10), "lengths of patterns between: {lengths:?}");
+    assert!(lengths[..10].iter().all(|&times| times > 3), "lengths of patterns between: {lengths:?}");
+}
+
+#[test]
+fn random_pairs_with_long_windows() {
+    let mut draw = Draw::new(23);
+    let mut lengths = [0; LONGEST_WINDOW + 1];
+    for _ in 0..cases(400) {
+        let (a, b) = pair(&mut draw, LONGEST_WINDOW);
+        lengths[agree_by_tables(&a, &b)] += 1;
+    }
+    assert!(lengths[0] > 50 && lengths[12..].iter().sum::<usize>() > 3, "lengths of patterns between: {lengths:?}");
 }
 
 /// The reference's own search, pattern by pattern, without the pages.
 #[test]
 fn random_pairs_literally() {
     let mut draw = Draw::new(22);
-    for _ in 0..cases(300) {
-        let (a, b) = pair(&mut draw);
-        let (a, b) = (sets::bytes(&a), sets::bytes(&b));
-        let want = expected::comparison(compare(&a, &b));
-        assert_eq!(floe::compare::compare(&a, &b), want, "compare {a:02X?} with {b:02X?}");
+    for _ in 0..cases(40) {
+        let (a, b) = pair(&mut draw, OLD_LONGEST_WINDOW);
+        agree(&a, &b, between_within(OLD_LONGEST_WINDOW, &a, &b));
     }
-}
-
-/// "B keeps every pattern that A keeps", those of more than 12 jobs too: no walk through both tables comes to a place
-/// where only the first allows a miss.
-#[test]
-fn covers_at_every_length() {
-    let mut draw = Draw::new(23);
-    let mut covers = 0;
-    for _ in 0..cases(150) {
-        let (a, b) = pair(&mut draw);
-        let found = floe::compare::compare(&sets::bytes(&a), &sets::bytes(&b));
-        let want = covers_by_tables(&table::states(&a), &table::states(&b));
-        assert_eq!(found.covers, u64::from(want), "compare {a:?} with {b:?}");
-        covers += found.covers;
-    }
-    assert!(covers > 20, "{covers}");
-}
-
-fn covers_by_tables(a: &[table::State], b: &[table::State]) -> bool {
-    let mut seen = HashSet::from([(0, 0)]);
-    let mut next = vec![(0, 0)];
-    while let Some((p, q)) = next.pop() {
-        let mut reached = vec![(a[p].hit, b[q].hit)];
-        match (a[p].miss, b[q].miss) {
-            (Some(_), None) => return false,
-            (Some(p), Some(q)) => reached.push((p, q)),
-            (None, _) => {}
-        }
-        next.extend(reached.into_iter().filter(|&pair| seen.insert(pair)));
-    }
-    true
 }
 
 /// "for the first set and then for the second; a refusal says which of them, 1 or 2"
@@ -102,7 +108,7 @@ fn covers_by_tables(a: &[table::State], b: &[table::State]) -> bool {
 fn refused_comparisons() {
     let mut draw = Draw::new(24);
     let mut seen = [[0; 8]; 3];
-    for _ in 0..cases(300_000) {
+    for _ in 0..cases(200_000) {
         let allowed = sets::bytes(&draw.set());
         let (a, b) = (spoilt_set(&mut draw), spoilt_set(&mut draw));
         for (a, b) in [(&a, &b), (&a, &allowed), (&allowed, &b)] {

@@ -4,8 +4,8 @@ use floelinnet_tests::damage::{damage, drawn_table};
 use floelinnet_tests::draw::{cases, Draw};
 use floelinnet_tests::pages::pages;
 use floelinnet_tests::reference::guard::{ask, start, tell, Answer, Guard, Story, FRESH, HELD};
-use floelinnet_tests::reference::limits::allowed_limits;
-use floelinnet_tests::reference::table;
+use floelinnet_tests::reference::limits::{allowed_limits, Limit};
+use floelinnet_tests::reference::table::{self, LONGEST_TABLE, MOST_STATES, WORK_ENTRIES};
 use floelinnet_tests::{expected, floe};
 
 fn agree_on_start(table: &[u8]) -> usize {
@@ -46,11 +46,11 @@ fn any_table_any_guard_any_outcome() {
     assert!([0, 10, 11, 12, 13, 17].iter().all(|&number| seen[number] > 100), "{seen:?}");
 }
 
-/// "A guard with nothing told isn't lost, is in state 0, holds 11 hits and has the count 0. The library makes one; a guard
+/// "A guard with nothing told isn't lost, is in state 0, holds 15 hits and has the count 0. The library makes one; a guard
 /// of zero bytes is another, for it holds misses."
 #[test]
 fn nothing_told() {
-    let nothing = floe::Guard { state: 0, lost: false, outcomes: [true; 11], count: 0 };
+    let nothing = floe::Guard { state: 0, lost: false, outcomes: [true; 15], count: 0 };
     assert_eq!(floe::guard::new(), nothing);
     assert_eq!(floe::guard::start(TABLE).guard, nothing);
     assert_eq!(floe::guard::start(&TABLE[1..]).guard, nothing);
@@ -94,21 +94,25 @@ fn every_choice_of_faults_at_the_largest_count() {
 fn outcomes_held() {
     let mut guard = floe::guard::start(TABLE).guard;
     let rows = [
-        (0, "11111111110", false),
-        (1, "11111111101", false),
-        (1, "11111111011", false),
-        (0, "11111110110", false),
-        (1, "11111101101", false),
-        (0, "11111011010", false),
-        (1, "11110110101", false),
-        (1, "11101101011", false),
-        (1, "11011010111", false),
-        (1, "10110101111", false),
-        (1, "01101011111", false),
-        (0, "11010111110", false),
-        (0, "11010111110", true),
-        (1, "11010111110", true),
-        (0, "11010111110", true),
+        (0, "111111111111110", false),
+        (1, "111111111111101", false),
+        (1, "111111111111011", false),
+        (0, "111111111110110", false),
+        (1, "111111111101101", false),
+        (0, "111111111011010", false),
+        (1, "111111110110101", false),
+        (1, "111111101101011", false),
+        (1, "111111011010111", false),
+        (1, "111110110101111", false),
+        (1, "111101101011111", false),
+        (1, "111011010111111", false),
+        (1, "110110101111111", false),
+        (1, "101101011111111", false),
+        (1, "011010111111111", false),
+        (0, "110101111111110", false),
+        (0, "110101111111110", true),
+        (1, "110101111111110", true),
+        (0, "110101111111110", true),
     ];
     for (count, (outcome, held, lost)) in (1..).zip(rows) {
         guard = floe::guard::tell(guard, TABLE, outcome).guard;
@@ -124,7 +128,7 @@ fn outcomes_held() {
 fn all_short_patterns_on_tables_of_sets() {
     let mut draw = Draw::new(62);
     let alone = allowed_limits().into_iter().map(|limit| vec![limit]);
-    for limits in alone.chain((0..cases(60)).map(|_| draw.set())) {
+    for limits in alone.chain((0..cases(40)).map(|_| draw.set())) {
         let table = table::bytes(&table::states(&limits));
         agree_on_start(&table);
         let verdicts = pages().verdicts(&limits);
@@ -144,11 +148,11 @@ fn all_short_patterns_on_tables_of_sets() {
     }
 }
 
-/// "RowMiss(x) says that x misses in a row never happen, x from 1 to 12.": after x-1 panic, before normal, then lost.
+/// RowMiss(x) says that x misses in a row never happen, x from 1 to 16: after x-1 panic, before normal, then lost.
 #[test]
 fn row_misses() {
-    for x in 1..=12 {
-        let (mut table, mut work) = ([0; 8199], [0; 8192]);
+    for x in 1..=16 {
+        let (mut table, mut work) = (vec![0; LONGEST_TABLE], vec![0; WORK_ENTRIES]);
         let built = floe::builder::build(&[0, 0, 0, 5, 1, 1, 3, x, 0], &mut work, &mut table);
         let table = &table[..built.length as usize];
         let mut guard = floe::guard::start(table).guard;
@@ -164,12 +168,12 @@ fn row_misses() {
     }
 }
 
-/// The guard is what its whole story says. "Eleven hits in a row, one job less than the longest window, bring it back to
+/// The guard is what its whole story says. "Fifteen hits in a row, one job less than the longest window, bring it back to
 /// state 0 unless it is lost."
 #[test]
 fn long_runs_on_tables_of_sets() {
     let mut draw = Draw::new(63);
-    for _ in 0..cases(200) {
+    for _ in 0..cases(120) {
         let set = draw.set();
         let states = table::states(&set);
         let table = table::bytes(&states);
@@ -187,4 +191,54 @@ fn long_runs_on_tables_of_sets() {
         assert_eq!(hits.count, 500 + HELD as u64);
         assert!(guard.lost || hits == Guard { count: hits.count, ..FRESH });
     }
+}
+
+/// On the largest table of a limit alone, by its states and by the story: AnyHit(8,16).
+#[test]
+fn on_a_table_of_12_870_states() {
+    let set = [Limit { kind: 0, x: 8, k: 16 }];
+    let states = table::states(&set);
+    let table = table::bytes(&states);
+    let mut draw = Draw::new(64);
+    let (mut guard, mut story) = (FRESH, Story::default());
+    let mut highest = 0;
+    for _ in 0..cases(60) {
+        let panic = ask(guard, &table) == Ok(Answer::Panic);
+        let outcome = u8::from(panic || draw.one_in(2));
+        (guard, _) = agree_on_guard(guard, &table, outcome);
+        story.tell(&set, outcome);
+        assert_eq!(guard, story.guard(&states), "{story:?}");
+        highest = highest.max(guard.state);
+    }
+    assert!(highest > 2048, "{highest}");
+    let back = (0..HELD).fold(guard, |guard, _| agree_on_guard(guard, &table, 1).0);
+    assert_eq!(back, Guard { count: back.count, ..FRESH });
+}
+
+/// AnyMiss(1,16): fourteen hits after a miss don't bring the guard back yet, the fifteenth does.
+#[test]
+fn fifteen_hits() {
+    let table = table::bytes(&table::states(&[Limit { kind: 2, x: 1, k: 16 }]));
+    let mut guard = agree_on_guard(FRESH, &table, 0).0;
+    for hits in 1..=15 {
+        assert_eq!(ask(guard, &table), Ok(Answer::Panic), "after {} hits", hits - 1);
+        guard = agree_on_guard(guard, &table, 1).0;
+        assert_eq!(guard.state == 0, hits == 15, "after {hits} hits");
+    }
+    assert_eq!(guard, Guard { count: 16, ..FRESH });
+}
+
+/// A guard's state may have 15 bits: 32,767 is below n where n is 32,768, "n is 0 or more than 32,768" beyond.
+#[test]
+fn the_highest_states() {
+    let table = |n: usize| table::bytes(&vec![table::State { miss: Some(n - 1), hit: 0 }; n]);
+    let most = table(MOST_STATES);
+    assert_eq!((most.len(), agree_on_start(&most)), (LONGEST_TABLE, 0));
+    for (state, want) in [(0, 0), (32_766, 0), (32_767, 0), (32_768, 12), (65_535, 12)] {
+        let (told, refused) = agree_on_guard(Guard { state, ..FRESH }, &most, 0);
+        assert_eq!((refused, told.state), if want == 0 { (0, 32_767) } else { (want, state) });
+    }
+    let beyond = table(MOST_STATES + 1);
+    assert_eq!(agree_on_start(&beyond), 12);
+    assert_eq!(agree_on_guard(FRESH, &beyond, 1).1, 12);
 }

@@ -2,8 +2,10 @@
 
 use floelinnet_tests::damage::spoilt_set;
 use floelinnet_tests::draw::{cases, Draw};
-use floelinnet_tests::pages::pages;
-use floelinnet_tests::reference::limits::{allowed_limits, keeps, set_keeps, Limit};
+use floelinnet_tests::pages::{pages, Pages};
+use floelinnet_tests::reference::limits::{
+    allowed_limits, keeps, set_keeps, width, Limit, LONGEST_WINDOW, OLD_LONGEST_WINDOW,
+};
 use floelinnet_tests::reference::verdict::{first, judge, Lost};
 use floelinnet_tests::reference::{sets, table, HIT, MISS};
 use floelinnet_tests::{expected, floe};
@@ -14,10 +16,10 @@ fn agree(set: &[u8], pattern: &[u8]) -> floe::Verdict {
     found
 }
 
-/// All 8,191 patterns of at most 12 jobs.
-fn agree_on_all_short_patterns(limits: &[Limit]) {
+/// All patterns of these pages.
+fn agree_on_pages(pages: &Pages, limits: &[Limit]) {
     let set = sets::bytes(limits);
-    for (pattern, lost) in pages().patterns.iter().zip(pages().verdicts(limits)) {
+    for (pattern, lost) in pages.patterns.iter().zip(pages.verdicts(limits)) {
         let want = expected::verdict(Ok(lost));
         assert_eq!(floe::verdict::judge(&set, pattern), want, "judge {limits:?} on {pattern:?}");
     }
@@ -26,14 +28,44 @@ fn agree_on_all_short_patterns(limits: &[Limit]) {
 #[test]
 fn every_limit_alone_on_all_short_patterns() {
     for limit in allowed_limits() {
-        agree_on_all_short_patterns(&[limit]);
+        agree_on_pages(pages(), &[limit]);
     }
 }
 
-/// "RowMiss(x) says that x misses in a row never happen, x from 1 to 12."
+/// All 131,071 patterns of at most 16 jobs, under some of the limits with windows of 13 to 16, alone and together.
+#[test]
+fn long_windows_on_all_patterns() {
+    let telling = [(0, 8, 16), (1, 3, 16), (2, 5, 13), (3, 15, 0)];
+    let limits = telling.map(|(kind, x, k)| Limit { kind, x, k });
+    let pages = Pages::new(limits.to_vec(), LONGEST_WINDOW);
+    for limit in limits {
+        agree_on_pages(&pages, &[limit]);
+    }
+    agree_on_pages(&pages, &limits);
+}
+
+/// Each limit with a window of 13 to 16, on patterns that may be longer than it.
+#[test]
+fn every_long_window_on_random_patterns() {
+    let mut draw = Draw::new(17);
+    let (mut kept, mut lost_late) = (0, 0);
+    for limit in allowed_limits().into_iter().filter(|&limit| width(limit) > OLD_LONGEST_WINDOW) {
+        let set = sets::bytes(&[limit]);
+        for _ in 0..cases(60) {
+            let jobs = 1 + draw.below(36);
+            let rarity = draw.of(&[1, 2, 3, 8]);
+            let verdict = agree(&set, &surviving(&mut draw, &[limit], jobs, rarity));
+            kept += verdict.kept;
+            lost_late += u64::from(verdict.job > OLD_LONGEST_WINDOW as u64);
+        }
+    }
+    assert!(kept > 1000 && lost_late > 200, "kept {kept}, lost after job 12 {lost_late}");
+}
+
+/// RowMiss(x) says that x misses in a row never happen, x from 1 to 16.
 #[test]
 fn row_misses() {
-    for x in 1..=12 {
+    for x in 1..=16 {
         let set = sets::bytes(&[Limit { kind: 3, x, k: 0 }]);
         let fewer = vec![MISS; usize::from(x) - 1];
         let kept = [&fewer[..], &[HIT], &fewer].concat();
@@ -47,8 +79,8 @@ fn row_misses() {
 #[test]
 fn random_sets_on_all_short_patterns() {
     let mut draw = Draw::new(11);
-    for _ in 0..cases(800) {
-        agree_on_all_short_patterns(&draw.set());
+    for _ in 0..cases(400) {
+        agree_on_pages(pages(), &draw.set());
     }
 }
 
@@ -67,7 +99,7 @@ fn surviving(draw: &mut Draw, limits: &[Limit], jobs: usize, rarity: usize) -> V
 fn random_sets_on_longer_patterns() {
     let mut draw = Draw::new(12);
     let (mut kept, mut lost_late) = (0, 0);
-    for _ in 0..cases(4_000) {
+    for _ in 0..cases(2_500) {
         let limits = draw.set();
         let set = sets::bytes(&limits);
         let jobs = 13 + draw.below(48);
@@ -75,9 +107,9 @@ fn random_sets_on_longer_patterns() {
         let _ = agree(&set, &draw.pattern(jobs, rarity));
         let verdict = agree(&set, &surviving(&mut draw, &limits, jobs, rarity));
         kept += verdict.kept as usize;
-        lost_late += usize::from(verdict.job > 12);
+        lost_late += usize::from(verdict.job > LONGEST_WINDOW as u64);
     }
-    assert!(kept > 100 && lost_late > 100, "kept {kept}, lost after job 12 {lost_late}");
+    assert!(kept > 100 && lost_late > 100, "kept {kept}, lost after job 16 {lost_late}");
 }
 
 /// "Of the windows of that limit that then fail": another limit that doesn't keep the beginning either may have a window
@@ -112,11 +144,12 @@ fn the_window_of_the_limit_that_is_said() {
 /// Numbers of jobs that need more than 16 bits, by hand: each pattern is lost by the miss at job 70,005.
 #[test]
 fn windows_far_into_a_pattern() {
-    let rows: [(Limit, &[usize], i64); 5] = [
+    let rows: [(Limit, &[usize], i64); 6] = [
         (Limit { kind: 0, x: 6, k: 8 }, &[70_000, 70_003, 70_005, 70_006], 69_998),
         // One hit on either side of the misses: 1 000 1.
         (Limit { kind: 1, x: 2, k: 5 }, &[70_003, 70_004, 70_005], 70_002),
         (Limit { kind: 2, x: 2, k: 12 }, &[69_994, 70_004, 70_005], 69_994),
+        (Limit { kind: 2, x: 2, k: 16 }, &[69_990, 70_004, 70_005], 69_990),
         (Limit { kind: 3, x: 4, k: 0 }, &[70_002, 70_003, 70_004, 70_005], 70_002),
         (Limit { kind: 3, x: 1, k: 0 }, &[70_005, 70_007], 70_005),
     ];
@@ -135,7 +168,7 @@ fn windows_far_into_a_pattern() {
 fn very_long_patterns() {
     let mut draw = Draw::new(13);
     let mut lost = 0;
-    for _ in 0..cases(100) {
+    for _ in 0..cases(60) {
         let limits = draw.set();
         let states = table::states(&limits);
         let jobs = 65_500 + draw.below(4_000);

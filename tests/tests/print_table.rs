@@ -2,21 +2,21 @@
 
 use std::fs::{read, read_dir};
 use std::io::Write;
-use std::path::Path;
-use std::process::Stdio;
+use std::path::{Path, PathBuf};
+use std::process::{Command, Stdio};
 use std::thread::sleep;
 use std::time::Duration;
 
 use floelinnet_tests::damage::spoilt_set;
 use floelinnet_tests::draw::{cases, Draw};
-use floelinnet_tests::reference::limits::{allowed_limits, Limit};
+use floelinnet_tests::reference::limits::{allowed_limits, limits_within, width, Limit, OLD_LONGEST_WINDOW};
 use floelinnet_tests::reference::table::states;
 use floelinnet_tests::reference::{refuse, sets, Refusal};
 use floelinnet_tests::tools;
 
 /// What `rt check print_table` makes.
 const PROGRAM: &str = concat!(env!("CARGO_MANIFEST_DIR"), "/../target/bin/print_table");
-const SETS: &str = concat!(env!("CARGO_MANIFEST_DIR"), "/../sets");
+const ROOT: &str = concat!(env!("CARGO_MANIFEST_DIR"), "/..");
 
 /// What the program writes for an input that comes in pieces of this length, with time to read each.
 fn printed_in_pieces(input: &[u8], length: usize) -> String {
@@ -41,12 +41,13 @@ fn printed(input: &[u8]) -> String {
 }
 
 /// RULES, The printing program: "It takes a set from standard input and reads 65 bytes of it at the most. More than 64
-/// are refusal 1, whatever they hold; 64 or fewer are tested as by the builder."
+/// are refusal 1, whatever they hold"; 64 or fewer are tested as by the builder, but for the longest window, which is 12
+/// here.
 fn judged(input: &[u8]) -> Result<Vec<Limit>, Refusal> {
     if input.len() > 64 {
         return refuse(1, 0);
     }
-    sets::read(input)
+    sets::read_within(OLD_LONGEST_WINDOW, input)
 }
 
 /// "A table is printed as one line with the word `states` and how many there are, then one line for each state, from 0
@@ -85,7 +86,7 @@ fn worked() {
 /// One input for each refusal that the program can print.
 #[test]
 fn refusals() {
-    let rows: [(&[u8], &str); 7] = [
+    let rows: [(&[u8], &str); 11] = [
         (&[0, 0, 0, 6, 1, 1, 0, 1, 2], "refused 1 at 0\n"),
         (&[0, 0, 0, 5, 2, 1, 0, 1, 2], "refused 2 at 0\n"),
         (&[0, 0, 0, 5, 1, 9, 0, 1, 2], "refused 3 at 0\n"),
@@ -93,6 +94,11 @@ fn refusals() {
         (&[0, 0, 0, 8, 1, 2, 0, 1, 2, 4, 1, 2], "refused 5 at 1\n"),
         (&[0, 0, 0, 11, 1, 3, 0, 1, 2, 0, 1, 2, 1, 1, 13], "refused 6 at 2\n"),
         (&[0, 0, 0, 8, 1, 2, 0, 1, 2, 3, 13, 0], "refused 7 at 1\n"),
+        // What the library takes.
+        (&[0, 0, 0, 5, 1, 1, 0, 8, 16], "refused 6 at 0\n"),
+        (&[0, 0, 0, 5, 1, 1, 3, 16, 0], "refused 7 at 0\n"),
+        (&[0, 0, 0, 8, 1, 2, 2, 0, 13, 0, 1, 17], "refused 6 at 0\n"),
+        (&[0, 0, 0, 8, 1, 2, 3, 13, 0, 4, 0, 1], "refused 7 at 0\n"),
     ];
     for (input, line) in rows {
         assert_eq!(printed(input), line, "{input:02X?}");
@@ -125,14 +131,32 @@ fn around_64_bytes() {
     }
 }
 
+fn files_of_sets() -> Vec<PathBuf> {
+    let files = read_dir(Path::new(ROOT).join("sets")).unwrap().map(|entry| entry.unwrap().path());
+    files.filter(|path| path.extension().is_some_and(|kind| kind == "limits")).collect()
+}
+
 #[test]
 fn every_file_of_sets() {
-    let mut tables = 0;
-    let files = read_dir(SETS).unwrap().map(|entry| entry.unwrap().path());
-    for path in files.filter(|path| path.extension().is_some_and(|kind| kind == "limits")) {
-        tables += u8::from(agree(&read(path).unwrap()) == 0);
+    let refused: Vec<u8> = files_of_sets().iter().map(|path| agree(&read(path).unwrap())).collect();
+    assert!(refused.iter().filter(|&&number| number == 0).count() >= 5, "{refused:?}");
+    assert_eq!(refused.iter().filter(|&&number| number == 6).count(), 2, "{refused:?}");
+}
+
+/// examples/table.rs prints what the program prints, by the library, and also the tables of the sets whose windows are too
+/// long for the program.
+#[test]
+fn the_example_of_the_library() {
+    for path in files_of_sets() {
+        let mut cargo = Command::new(env!("CARGO"));
+        cargo.args(["run", "--release", "--offline", "--quiet", "--example", "table"]).arg(&path).current_dir(ROOT);
+        let output = cargo.output().unwrap();
+        assert!(output.status.success() && output.stderr.is_empty(), "{output:?}");
+        let lines = String::from_utf8(output.stdout).unwrap();
+        let set = read(&path).unwrap();
+        assert_eq!(lines, text(sets::read(&set)), "{path:?}");
+        assert!(judged(&set).is_err() || lines == printed(&set), "{path:?}");
     }
-    assert!(tables >= 5, "{tables}");
 }
 
 /// AnyHit(6,12) has the most states, and no text of a limit alone has more lines.
@@ -144,7 +168,16 @@ fn every_limit_alone() {
         printed(&input).lines().count()
     };
     assert_eq!(lines(Limit { kind: 0, x: 6, k: 12 }), 1 + 924);
-    assert_eq!(allowed_limits().into_iter().map(lines).max(), Some(1 + 924));
+    assert_eq!(limits_within(OLD_LONGEST_WINDOW).into_iter().map(lines).max(), Some(1 + 924));
+}
+
+/// Limits that the library takes and the program doesn't: of each kind and window the strictest and the mildest.
+#[test]
+fn longer_windows() {
+    let longer = |limit: &Limit| width(*limit) > OLD_LONGEST_WINDOW;
+    for limit in allowed_limits().into_iter().filter(longer).filter(|limit| limit.x % limit.k.max(1) == 0) {
+        assert_eq!(agree(&sets::bytes(&[limit])), if limit.kind == 3 { 7 } else { 6 }, "{limit:?}");
+    }
 }
 
 /// A read that gives fewer bytes than were asked for is not the end of the input.
@@ -161,7 +194,7 @@ fn in_pieces() {
 fn random_sets() {
     let mut draw = Draw::new(91);
     for _ in 0..cases(60) {
-        assert_eq!(agree(&sets::bytes(&draw.set())), 0);
+        assert_eq!(agree(&sets::bytes(&draw.set_within(OLD_LONGEST_WINDOW))), 0);
     }
     let mut seen = [0; 8];
     for _ in 0..cases(600) {

@@ -129,7 +129,7 @@ fn long_runs_on_tables_of_sets() {
     let mut draw = Draw::new(72);
     let mut refused = [0; 15];
     let mut heard = [0; 3];
-    for _ in 0..cases(400) {
+    for _ in 0..cases(250) {
         let table = table::bytes(&table::states(&draw.set()));
         let count = 1 + draw.below(16);
         let mut rows = Rows::new(&mut draw, vec![FRESH; count]);
@@ -280,10 +280,10 @@ fn what_a_row_holds() {
     }
     let held = |digits: &str| <[bool; HELD]>::try_from(digits.bytes().map(|digit| digit == b'1').collect::<Vec<_>>());
     let guard = |state, lost, digits, count| floe::Guard { state, lost, outcomes: held(digits).unwrap(), count };
-    let fresh = guard(0, false, "11111111111", 0);
-    assert_eq!(row, [guard(0, false, "11111111011", 3), fresh, guard(1, true, "11111111110", 3)]);
+    let fresh = guard(0, false, "111111111111111", 0);
+    assert_eq!(row, [guard(0, false, "111111111111011", 3), fresh, guard(1, true, "111111111111110", 3)]);
     assert_eq!(floe::row::start(&mut row, 2, TABLE), floe::Done::default());
-    assert_eq!(row, [guard(0, false, "11111111011", 3), fresh, fresh]);
+    assert_eq!(row, [guard(0, false, "111111111111011", 3), fresh, fresh]);
 }
 
 fn guards(written: &str) -> Vec<Guard> {

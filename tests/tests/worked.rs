@@ -1,7 +1,7 @@
 //! RULES, Patterns to try, by the reference and by the archive.
 
 use floelinnet_tests::reference::limits::{panics, set_keeps, Limit};
-use floelinnet_tests::reference::table::{bytes, states};
+use floelinnet_tests::reference::table::{bytes, states, WORK_ENTRIES};
 use floelinnet_tests::reference::verdict::{lost, Lost};
 use floelinnet_tests::reference::{compare, sets};
 use floelinnet_tests::{expected, floe};
@@ -59,7 +59,7 @@ fn tables() {
         for &limit in limits {
             assert_eq!(bytes(&states(&[limit])), table, "{limit:?} alone");
             let mut room = vec![0; table.len()];
-            let built = floe::builder::build(&sets::bytes(&[limit]), &mut [0; 8192], &mut room);
+            let built = floe::builder::build(&sets::bytes(&[limit]), &mut vec![0; WORK_ENTRIES], &mut room);
             assert_eq!((built.refused, &room[..]), (0, table), "{limit:?} alone");
         }
     }
@@ -86,6 +86,7 @@ fn verdicts() {
     judged(row_hit(2, 5), "000", Some((3, 0)));
     judged(row_hit(2, 5), "00011", Some((3, 0)));
     judged(any_hit(12, 12), "0", Some((1, -10)));
+    judged(any_hit(16, 16), "0", Some((1, -14)));
     judged(any_hit(1, 1), "", None);
 }
 
@@ -103,13 +104,16 @@ fn comparisons() {
     compared(any_miss(3, 7), any_miss(2, 5), "000");
     compared(any_hit(1, 2), any_hit(5, 10), "");
     compared(any_hit(5, 10), any_hit(1, 2), "00");
+    compared(any_miss(2, 15), any_miss(2, 16), "0011111111111110");
 }
 
 #[test]
 fn refusals() {
     let refused = |limits: &[Limit]| floe::sets::read_set(&sets::bytes(limits)).refused;
-    assert_eq!(refused(&[any_hit(1, 12)]), 0);
-    assert_eq!(refused(&[any_hit(1, 13)]), 6);
+    assert_eq!(refused(&[any_hit(1, 16)]), 0);
+    assert_eq!(refused(&[any_hit(1, 17)]), 6);
+    assert_eq!(refused(&[row_miss(16)]), 0);
+    assert_eq!(refused(&[row_miss(17)]), 7);
     assert_eq!(refused(&[any_hit(1, 2); 8]), 0);
     assert_eq!(refused(&[any_hit(1, 2); 9]), 3);
 }

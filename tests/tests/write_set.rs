@@ -1,8 +1,9 @@
 //! floe_write_set against the reference.
 
 use floelinnet_tests::draw::{cases, Draw};
-use floelinnet_tests::reference::limits::Limit;
+use floelinnet_tests::reference::limits::{allowed_limits, Limit};
 use floelinnet_tests::reference::sets;
+use floelinnet_tests::reference::table::{LONGEST_TABLE, WORK_ENTRIES};
 use floelinnet_tests::{expected, floe};
 
 /// Both answers agree, and the buffer holds the set's bytes and past them what it held; gives the number of the refusal.
@@ -23,18 +24,21 @@ fn agree(draw: &mut Draw, count: u64, places: [Limit; 8], room: usize) -> usize 
 
 const NONE: Limit = Limit { kind: 0, x: 0, k: 0 };
 
-/// One limit, with the same in the places that aren't in use.
+/// One limit, with the same in the places that aren't in use: every x and k of every kind that there is, and of some that
+/// there aren't.
 #[test]
-fn every_single_limit_of_three_bytes() {
+fn every_single_limit() {
     let mut draw = Draw::new(11);
     let mut seen = [0; 10];
-    for number in 0..1u32 << 24 {
-        let [_, kind, x, k] = number.to_be_bytes();
-        seen[agree(&mut draw, 1, [Limit { kind, x, k }; 8], 9)] += 1;
+    for kind in [0, 1, 2, 3, 4, 5, 127, 128, 255] {
+        for number in 0..=u16::MAX {
+            let [x, k] = number.to_be_bytes();
+            seen[agree(&mut draw, 1, [Limit { kind, x, k }; 8], 9)] += 1;
+        }
     }
-    // The table of kinds allows 3 times 90 limits with a k, and 12 without.
-    assert_eq!(seen[0], 282);
-    assert_eq!(seen.iter().sum::<usize>(), 1 << 24);
+    // The table of kinds allows 3 times 152 limits with a k, and 16 without.
+    assert_eq!((seen[0], allowed_limits().len()), (472, 472));
+    assert_eq!(seen[5], 5 << 16);
 }
 
 /// Any count, also one that no set has; any limits, those that aren't in use too; any buffer.
@@ -47,7 +51,7 @@ fn any_set_any_buffer() {
         for place in &mut places {
             *place = draw.limit();
             if draw.one_in(20) {
-                *place = Limit { kind: draw.below(6) as u8, x: draw.byte(), k: draw.below(15) as u8 };
+                *place = Limit { kind: draw.below(6) as u8, x: draw.byte(), k: draw.below(19) as u8 };
             }
         }
         let count = draw.of(&[0, 1, 2, 3, 4, 5, 6, 7, 8, 9, 255, 256, 1 << 32, u64::MAX]);
@@ -61,9 +65,9 @@ fn any_set_any_buffer() {
 /// A caller who hands lengths on and looks at the last answer alone sees that limits were refused.
 #[test]
 fn refused_limits_handed_on() {
-    for (count, kind, x, k) in [(0, 0, 1, 2), (9, 0, 1, 2), (1, 4, 1, 2), (1, 0, 1, 13), (1, 0, 3, 2), (1, 3, 0, 0)] {
+    for (count, kind, x, k) in [(0, 0, 1, 2), (9, 0, 1, 2), (1, 4, 1, 2), (1, 0, 1, 17), (1, 0, 3, 2), (1, 3, 0, 0)] {
         let set = floe::Set { count, limits: [floe::Limit { kind, x, k }; 8] };
-        let (mut bytes, mut work, mut table) = ([7; 30], [7; 8192], [7; 8199]);
+        let (mut bytes, mut work, mut table) = ([7; 30], vec![7; WORK_ENTRIES], vec![7; LONGEST_TABLE]);
         let written = floe::sets::write_set(set, &mut bytes);
         let built = floe::builder::build(&bytes[..written.length as usize], &mut work, &mut table);
         let table = &table[..built.length as usize];

@@ -1,7 +1,7 @@
 //! A lookup in a table with the tests that ask and tell make: 10, 11, the counts in 12 and the state's own entry. It
 //! has a state alone; below it stands a whole guard, with what the rules name.
 
-use super::verdict::HITS;
+use super::sets::LONGEST_WINDOW;
 
 #[inline(never)]
 pub fn may_miss(table: &[u8], state: u16) -> Result<bool, u8> {
@@ -28,7 +28,7 @@ pub fn row_next(row: &mut [u16], job: usize, table: &[u8], outcome: u8) -> Resul
 }
 
 /// One less than the longest window.
-pub const HELD: usize = HITS.len() - 1;
+pub const HELD: usize = LONGEST_WINDOW - 1;
 
 #[derive(Clone, Copy, PartialEq, Eq, Debug)]
 pub struct Guard {
@@ -127,7 +127,7 @@ fn entry(table: &[u8], state: u16) -> Result<(u16, u16), u8> {
     }
     let pair = |at: usize| u16::from_be_bytes([table[at], table[at + 1]]);
     let states = pair(5);
-    if states == 0 || states > 2048 || length != 3 + 4 * usize::from(states) || state >= states {
+    if states == 0 || states > 32_768 || length != 3 + 4 * usize::from(states) || state >= states {
         return Err(12);
     }
     let at = 7 + 4 * usize::from(state);

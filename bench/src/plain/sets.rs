@@ -1,5 +1,8 @@
 //! A plain reader and a plain writer of sets.
 
+/// How many jobs the longest window has.
+pub const LONGEST_WINDOW: usize = 16;
+
 #[derive(Clone, Copy, Default)]
 pub struct Limit {
     pub kind: u8,
@@ -75,7 +78,8 @@ fn test(limit: &Limit, number: usize) -> Result<(), Refusal> {
     if limit.kind > 3 {
         return Err((5, number));
     }
-    let (ks, xs) = if limit.kind == 3 { (0..=0, 1..=12) } else { (1..=12, 0..=limit.k) };
+    const LONGEST: u8 = LONGEST_WINDOW as u8;
+    let (ks, xs) = if limit.kind == 3 { (0..=0, 1..=LONGEST) } else { (1..=LONGEST, 0..=limit.k) };
     if !ks.contains(&limit.k) {
         return Err((6, number));
     }

@@ -1,6 +1,6 @@
 //! Two plain verdicts. Both put hits around the pattern and look at windows of bytes.
 
-use super::sets::{read, Limit, Refusal};
+use super::sets::{read, Limit, Refusal, LONGEST_WINDOW};
 use super::{holds, width};
 
 /// The job at which the pattern is lost, the limit that doesn't keep it and the first job of that limit's window.
@@ -39,17 +39,18 @@ fn prepare(set: &[u8], pattern: &[u8]) -> Result<(super::sets::Set, Vec<u8>), Re
     Ok((set, [&HITS, pattern, &HITS].concat()))
 }
 
-pub const HITS: [u8; 12] = [1; 12];
+pub const HITS: [u8; LONGEST_WINDOW] = [1; LONGEST_WINDOW];
 
 fn job_by_job(limits: &[Limit], pattern: &[u8]) -> Lost {
-    // The newest twelve outcomes with hits after them: a window that contains the newest starts among them.
-    let mut around = [1; 24];
+    // The newest outcomes, as many as the longest window has, with hits after them: a window that contains the newest
+    // starts among them.
+    let mut around = [1; 2 * LONGEST_WINDOW];
     for (place, &outcome) in pattern.iter().enumerate() {
-        around.copy_within(1..12, 0);
-        around[11] = outcome;
+        around.copy_within(1..LONGEST_WINDOW, 0);
+        around[LONGEST_WINDOW - 1] = outcome;
         for (number, limit) in limits.iter().enumerate() {
             let width = width(limit);
-            let mut windows = around[12 - width..11 + width].windows(width);
+            let mut windows = around[LONGEST_WINDOW - width..LONGEST_WINDOW - 1 + width].windows(width);
             if let Some(later) = windows.position(|window| !holds(limit, window)) {
                 // The first of these windows ends with this job, and each one begins a job later.
                 let job = place + 1;

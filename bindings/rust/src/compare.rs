@@ -16,7 +16,7 @@ pub enum Comparison {
     Between(Pattern),
 }
 
-/// A pattern of at most 12 outcomes, oldest first; it serves as a slice of them.
+/// A pattern of at most 16 outcomes, oldest first; it serves as a slice of them.
 #[derive(Clone, Copy, PartialEq, Eq)]
 pub struct Pattern {
     length: usize,

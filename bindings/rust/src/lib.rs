@@ -55,7 +55,7 @@ mod sets;
 mod table;
 mod verdict;
 
-pub use carry::record_size;
+pub use carry::{old_record_size, record_size};
 pub use compare::{compare, Comparison, Pattern, RefusedSet};
 pub use guard::Answer;
 pub use night_log::{judge_log, log_size, write_log, LogReader};
@@ -77,13 +77,13 @@ pub const MOST_LIMITS: usize = 8;
 /// The length in bytes of the longest set.
 pub const LONGEST_SET: usize = 30;
 /// How many entries of 16 bits [`build`] needs to work.
-pub const WORK_ENTRIES: usize = 8192;
+pub const WORK_ENTRIES: usize = 131_072;
 /// The length in bytes of the longest table.
-pub const LONGEST_TABLE: usize = 8199;
+pub const LONGEST_TABLE: usize = 131_079;
 /// How many guards a row has at the most.
 pub const MOST_GUARDS: usize = 16;
 /// How many jobs the longest window has.
-pub const LONGEST_WINDOW: usize = 12;
+pub const LONGEST_WINDOW: usize = 16;
 /// How many outcomes a guard holds. A window that a later outcome completes reaches back no further.
 pub const HELD: usize = LONGEST_WINDOW - 1;
 /// The length in bytes of the longest carry-over record.

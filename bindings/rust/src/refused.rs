@@ -1,7 +1,7 @@
 use core::error::Error;
 use core::fmt;
 
-use crate::record_size;
+use crate::{old_record_size, record_size, WORK_ENTRIES};
 
 /// Why a call was refused. The tests are made in the order of the numbers, unless a function's page says otherwise, and
 /// the first that applies is given.
@@ -20,12 +20,12 @@ pub enum Refused {
         /// The number of the limit.
         limit: usize,
     },
-    /// 6: the k of this limit, counted from 0, isn't 1 to 12, or for RowMiss isn't 0.
+    /// 6: the k of this limit, counted from 0, isn't 1 to 16, or for RowMiss isn't 0.
     LimitK {
         /// The number of the limit.
         limit: usize,
     },
-    /// 7: the x of this limit, counted from 0, isn't 0 to k, or for RowMiss isn't 1 to 12.
+    /// 7: the x of this limit, counted from 0, isn't 0 to k, or for RowMiss isn't 1 to 16.
     LimitX {
         /// The number of the limit.
         limit: usize,
@@ -42,7 +42,7 @@ pub enum Refused {
     TableLength,
     /// 11: the table's version isn't 1.
     TableVersion,
-    /// 12: the table's count of states n is 0 or above 2048, its length field isn't 3 + 4n, a next state is n or more
+    /// 12: the table's count of states n is 0 or above 32768, its length field isn't 3 + 4n, a next state is n or more
     /// (FF FF on a miss excepted), or the guard's state is n or more.
     States,
     /// 13: an outcome byte is neither 0 nor 1.
@@ -63,12 +63,16 @@ pub enum Refused {
     /// 17: the guard that is told was told [`u64::MAX`] outcomes already. It can be asked and stored, but only a new
     /// guard can be told more.
     Count,
-    /// 18: the record has fewer bytes than [`record_size(0)`](crate::record_size), its length field isn't the count of
-    /// bytes after it, or its version isn't 1. A record that was cut short is refused so: start a new guard. A buffer
-    /// that is longer than the record in it is refused so too: pass `&record[..length]`.
+    /// 18: the version of the record is neither 1 nor 2; it has fewer bytes than [`record_size(0)`](crate::record_size),
+    /// with version 1 than [`old_record_size(0)`](crate::old_record_size); or its length field isn't the count of bytes
+    /// after it. A record that was cut short is refused so: start a new guard. A buffer that is longer than the record
+    /// in it is refused so too: pass `&record[..length]`.
     Record,
     /// 19: the lost byte of the record is neither 0 nor 1. Its bytes were changed since it was written.
     LostByte,
+    /// 20: the record has version 1, and its set has a window of more than 12 jobs. Its 11 outcomes don't reach back so
+    /// far, and no guard had such a set when version 1 was written: start a new guard.
+    OldRecord,
     /// 25: the outcomes of the record can't be walked on the table from state 0. The table wasn't built from the set
     /// that the record carries, or the record's bytes were changed since it was written.
     Walk,
@@ -77,7 +81,7 @@ pub enum Refused {
 }
 
 impl Refused {
-    /// The number of the refusal, 1 to 19, 25 or 26.
+    /// The number of the refusal, 1 to 20, 25 or 26.
     pub fn number(self) -> u8 {
         match self {
             Refused::SetLength => 1,
@@ -99,6 +103,7 @@ impl Refused {
             Refused::Count => 17,
             Refused::Record => 18,
             Refused::LostByte => 19,
+            Refused::OldRecord => 20,
             Refused::Walk => 25,
             Refused::PatternLength => 26,
         }
@@ -127,16 +132,16 @@ impl fmt::Display for Refused {
             Refused::LimitCount => f.write_str("the set's count of limits is 0 or above 8"),
             Refused::LimitsLength => f.write_str("the set's length field isn't 2 + 3 times its count of limits"),
             Refused::LimitKind { limit } => write!(f, "the kind of limit {limit} is above 3"),
-            Refused::LimitK { limit } => write!(f, "the k of limit {limit} isn't 1 to 12 (RowMiss: 0)"),
-            Refused::LimitX { limit } => write!(f, "the x of limit {limit} isn't 0 to its k (RowMiss: 1 to 12)"),
-            Refused::WorkLength => f.write_str("the work area has fewer than 8192 entries"),
+            Refused::LimitK { limit } => write!(f, "the k of limit {limit} isn't 1 to 16 (RowMiss: 0)"),
+            Refused::LimitX { limit } => write!(f, "the x of limit {limit} isn't 0 to its k (RowMiss: 1 to 16)"),
+            Refused::WorkLength => write!(f, "the work area has fewer than {WORK_ENTRIES} entries"),
             Refused::Room { needed } => write!(f, "the buffer is shorter than the {needed} bytes to be written"),
             Refused::TableLength => {
                 f.write_str("the table has fewer than 7 bytes, or its length field isn't the count of bytes after it")
             }
             Refused::TableVersion => f.write_str("the table's version isn't 1"),
             Refused::States => f.write_str(
-                "the table's count of states is 0 or above 2048, its length field isn't 3 + 4 times that count, \
+                "the table's count of states is 0 or above 32768, its length field isn't 3 + 4 times that count, \
                  or a next state or the guard's state isn't below it",
             ),
             Refused::Outcome { place } => write!(f, "the outcome at place {place} is neither 0 nor 1"),
@@ -154,12 +159,17 @@ impl fmt::Display for Refused {
             ),
             Refused::Record => write!(
                 f,
-                "the record has fewer than {} bytes, its length field isn't the count of bytes after it, or its \
-                 version isn't 1: it was cut short or is no record, so start a new guard",
-                record_size(0)
+                "the version of the record is neither 1 nor 2, it has fewer than {} bytes (version 1: {}), or its length \
+                 field isn't the count of bytes after it: it was cut short or is no record, so start a new guard",
+                record_size(0),
+                old_record_size(0)
             ),
             Refused::LostByte => f.write_str(
                 "the lost byte of the record is neither 0 nor 1: its bytes were changed, so start a new guard",
+            ),
+            Refused::OldRecord => f.write_str(
+                "the record has version 1, and its set has a window of more than 12 jobs: a record of version 1 can only \
+                 be of shorter ones, so start a new guard",
             ),
             Refused::Walk => f.write_str(
                 "the outcomes of the record can't be walked on the table: build the table from the set that the record \
@@ -196,6 +206,7 @@ pub(crate) fn accepted(refused: u64, at: u64) -> Result<(), Refused> {
         17 => Refused::Count,
         18 => Refused::Record,
         19 => Refused::LostByte,
+        20 => Refused::OldRecord,
         25 => Refused::Walk,
         26 => Refused::PatternLength,
         number => crate::no_such("refusal", number),
@@ -209,7 +220,7 @@ mod tests {
     /// 26 is among them, which no call through a slice can give.
     #[test]
     fn each_number_is_its_own() {
-        for number in (1..=19).chain([25, 26]) {
+        for number in (1..=20).chain([25, 26]) {
             assert_eq!(accepted(number, 7).map_err(Refused::number), Err(number as u8));
         }
         assert_eq!(accepted(26, 0), Err(Refused::PatternLength));

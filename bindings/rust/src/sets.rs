@@ -3,33 +3,33 @@ use core::fmt;
 use crate::refused::accepted;
 use crate::{no_such, raw, Refused, LONGEST_SET};
 
-/// One limit: what has to hold in every window of its length, 1 to 12 jobs. [`LimitSet::new`] judges the numbers.
+/// One limit: what has to hold in every window of its length, 1 to 16 jobs. [`LimitSet::new`] judges the numbers.
 #[derive(Clone, Copy, PartialEq, Eq, Hash, Debug)]
 pub enum Limit {
     /// At least x hits in k jobs.
     AnyHit {
         /// How many hits, 0 to k.
         x: u8,
-        /// Of how many jobs, 1 to 12.
+        /// Of how many jobs, 1 to 16.
         k: u8,
     },
     /// Some x hits in a row in k jobs.
     RowHit {
         /// How many hits, 0 to k.
         x: u8,
-        /// Of how many jobs, 1 to 12.
+        /// Of how many jobs, 1 to 16.
         k: u8,
     },
     /// At most x misses in k jobs.
     AnyMiss {
         /// How many misses, 0 to k.
         x: u8,
-        /// Of how many jobs, 1 to 12.
+        /// Of how many jobs, 1 to 16.
         k: u8,
     },
-    /// x misses in a row never happen, x from 1 to 12.
+    /// x misses in a row never happen, x from 1 to 16.
     RowMiss {
-        /// How many misses, 1 to 12.
+        /// How many misses, 1 to 16.
         x: u8,
     },
 }
@@ -89,7 +89,7 @@ impl LimitSet {
     /// assert_eq!(set.bytes(), [0, 0, 0, 8, 1, 2, 2, 2, 8, 3, 2, 0]);
     ///
     /// assert_eq!(LimitSet::new(&[]), Err(Refused::LimitCount));
-    /// let window_too_long = Limit::AnyHit { x: 1, k: 13 };
+    /// let window_too_long = Limit::AnyHit { x: 1, k: 17 };
     /// assert_eq!(LimitSet::new(&[window_too_long]), Err(Refused::LimitK { limit: 0 }));
     /// # Ok::<(), Refused>(())
     /// ```
@@ -134,7 +134,7 @@ impl fmt::Debug for LimitSet {
 /// let set = read_set(&[0, 0, 0, 8, 1, 2, 2, 2, 8, 3, 2, 0])?;
 /// assert!(set.limits().eq([Limit::AnyMiss { x: 2, k: 8 }, Limit::RowMiss { x: 2 }]));
 ///
-/// assert_eq!(read_set(&[0, 0, 0, 5, 1, 1, 0, 1, 13]), Err(Refused::LimitK { limit: 0 }));
+/// assert_eq!(read_set(&[0, 0, 0, 5, 1, 1, 0, 1, 17]), Err(Refused::LimitK { limit: 0 }));
 /// # Ok::<(), Refused>(())
 /// ```
 pub fn read_set(set: &[u8]) -> Result<LimitSet, Refused> {

@@ -8,10 +8,11 @@ use crate::{raw, Refused};
 /// n; and for each state two for the next state after a miss (FF FF: a miss isn't allowed) and two for that after a hit.
 ///
 /// `work` is lent for the call, whatever it holds. Buffers of [`WORK_ENTRIES`](crate::WORK_ENTRIES) and
-/// [`LONGEST_TABLE`](crate::LONGEST_TABLE) serve every set.
+/// [`LONGEST_TABLE`](crate::LONGEST_TABLE) serve every set. They are large for a stack, 262,144 and 131,079 bytes, so a
+/// thread that hasn't much of it has them elsewhere.
 ///
 /// Refuses by 1 to 7, then by 8, then by 9 with the length that is needed. Whether it builds or refuses by 9, it leaves
-/// the first 8192 entries of `work` zero. Nothing else is written, but for the table where it builds.
+/// the first [`WORK_ENTRIES`](crate::WORK_ENTRIES) entries of `work` zero. Nothing else is written, but for the table where it builds.
 ///
 /// ```
 /// use floelinnet::{build, Refused, LONGEST_TABLE, WORK_ENTRIES};

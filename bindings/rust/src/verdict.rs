@@ -17,7 +17,7 @@ pub enum Verdict {
         limit: usize,
         /// Where to look: with endless hits before and after that beginning, the earliest window of that limit that
         /// fails begins with this job. The job at which the pattern is lost lies in this window, so `job` less `first`
-        /// is below [`LONGEST_WINDOW`](crate::LONGEST_WINDOW). Jobs 0, -1, -2 and so on, down to -10, are hits that
+        /// is below [`LONGEST_WINDOW`](crate::LONGEST_WINDOW). Jobs 0, -1, -2 and so on, down to -14, are hits that
         /// count as standing before the pattern.
         first: i64,
     },

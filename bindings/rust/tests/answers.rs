@@ -40,10 +40,10 @@ fn of_judge() {
     let lost = judge(&ALL_KINDS, &[1, 1, 0, 1, 0]).unwrap();
     assert_eq!(lost, Verdict::Lost { job: 5, limit: 1, first: 2 });
     assert_eq!(lost.to_string(), "lost at job 5 by limit 1, in the window from job 2");
-    let all_of_12 = [0, 0, 0, 5, 1, 1, 0, 12, 12];
-    let lost = judge(&all_of_12, &[0]).unwrap();
-    assert_eq!(lost, Verdict::Lost { job: 1, limit: 0, first: -10 });
-    assert_eq!(lost.to_string(), "lost at job 1 by limit 0, in the window from job -10");
+    let all_of_16 = [0, 0, 0, 5, 1, 1, 0, 16, 16];
+    let lost = judge(&all_of_16, &[0]).unwrap();
+    assert_eq!(lost, Verdict::Lost { job: 1, limit: 0, first: -14 });
+    assert_eq!(lost.to_string(), "lost at job 1 by limit 0, in the window from job -14");
 }
 
 #[test]
@@ -60,17 +60,28 @@ fn of_compare() {
     assert_eq!(format!("{pattern:?}"), "[0, 0, 1, 1, 1, 0, 0]");
     assert_eq!(judge(&any_miss_3_of_7, &pattern), Ok(Verdict::Lost { job: 7, limit: 0, first: 1 }));
     assert_eq!(*between(&any_miss_3_of_7, &any_miss_2_of_5), [0, 0, 0]);
+    // A pattern as long as the longest window.
+    let (row_miss_16, any_miss_14_of_16) = ([0, 0, 0, 5, 1, 1, 3, 16, 0], [0, 0, 0, 5, 1, 1, 2, 14, 16]);
+    assert_eq!(*between(&row_miss_16, &any_miss_14_of_16), [0; 15]);
+    let any_miss_15_of_16 = [0, 0, 0, 5, 1, 1, 2, 15, 16];
+    assert_eq!(compare(&row_miss_16, &any_miss_15_of_16), Ok(Comparison::Covers));
+    let pattern = between(&[0, 0, 0, 5, 1, 1, 2, 2, 15], &[0, 0, 0, 5, 1, 1, 2, 2, 16]);
+    assert_eq!(*pattern, [0, 0, 1, 1, 1, 1, 1, 1, 1, 1, 1, 1, 1, 1, 1, 0]);
 }
 
 #[test]
 fn of_build_and_check() {
-    let mut work = [7; WORK_ENTRIES];
-    let mut table = [7; LONGEST_TABLE];
+    let mut work = vec![7; WORK_ENTRIES];
+    let mut table = vec![7; LONGEST_TABLE];
     let length = build(&ALL_KINDS, &mut work, &mut table).unwrap();
     assert_eq!(table[..length], TABLE);
-    assert_eq!(table[length..], [7; LONGEST_TABLE][length..]);
-    assert_eq!(work, [0; WORK_ENTRIES]);
+    assert!(table[length..].iter().all(|&byte| byte == 7));
+    assert!(work.iter().all(|&entry| entry == 0));
     assert_eq!(check_table(&table[..length]), Ok(3));
+
+    // 8 of 16: the most states that one limit has.
+    let length = build(&[0, 0, 0, 5, 1, 1, 0, 8, 16], &mut work, &mut table).unwrap();
+    assert_eq!(check_table(&table[..length]), Ok(12_870));
 }
 
 /// The guard is a value: each copy goes its own way.
@@ -132,27 +143,39 @@ fn of_records() {
             assert_eq!(length, record_size(ALL_KINDS.len()));
             assert_eq!(record[length..], [7; LONGEST_RECORD][length..]);
             assert_eq!(Guard::read_record(&record[..length], &TABLE), Ok(guard), "{pattern:?}");
+            let old = old_record(&ALL_KINDS, guard);
+            assert_eq!(old.len(), old_record_size(ALL_KINDS.len()));
+            assert_eq!(Guard::read_record(&old, &TABLE), Ok(guard), "{pattern:?}");
         }
     }
+}
+
+/// What was written of this guard before 0.7.0: version 1, and the last 11 outcomes.
+fn old_record(set: &[u8], guard: Guard) -> Vec<u8> {
+    let outcomes = guard.outcomes[HELD - 11..].iter().map(|&hit| u8::from(hit));
+    let rest: Vec<u8> = [1].into_iter().chain(set.iter().copied()).chain(outcomes).collect();
+    let tail = [&guard.count.to_be_bytes()[..], &[u8::from(guard.lost)]].concat();
+    let length = (rest.len() + tail.len()) as u32;
+    [&length.to_be_bytes()[..], &rest, &tail].concat()
 }
 
 #[test]
 fn of_a_records_bytes() {
     let one_of_two = [0, 0, 0, 5, 1, 1, 0, 1, 2];
     let guard = Guard { state: 1, lost: true, outcomes: held(&[MISS, HIT, HIT, MISS]), count: 0x0102_0304_0506_0708 };
-    let mut record = [7; 36];
-    assert_eq!(guard.write_record(&one_of_two, &mut record), Ok(34));
+    let mut record = [7; 40];
+    assert_eq!(guard.write_record(&one_of_two, &mut record), Ok(38));
     let want = [
-        &[0, 0, 0, 30, 1][..],
+        &[0, 0, 0, 34, 2][..],
         &one_of_two,
-        &[1, 1, 1, 1, 1, 1, 1, 0, 1, 1, 0],
+        &[1, 1, 1, 1, 1, 1, 1, 1, 1, 1, 1, 0, 1, 1, 0],
         &[1, 2, 3, 4, 5, 6, 7, 8],
         &[1],
         &[7, 7],
     ];
     assert_eq!(record[..], want.concat());
-    assert_eq!(record_size(0), 25);
-    assert_eq!((HELD, LONGEST_RECORD), (11, 55));
+    assert_eq!((record_size(0), old_record_size(0)), (29, 25));
+    assert_eq!((HELD, LONGEST_RECORD), (15, 59));
 }
 
 /// Every pattern of up to 10 jobs comes back from its log, and is judged there as it is without one.

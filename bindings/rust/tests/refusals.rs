@@ -31,10 +31,10 @@ fn of_sets() {
     says(refused(&with(SET, 4, 2)), 2, 0, "the set's version isn't 1");
     says(refused(&with(SET, 5, 9)), 3, 0, "the set's count of limits is 0 or above 8");
     says(refused(&with(SET, 5, 2)), 4, 0, "the set's length field isn't 2 + 3 times its count of limits");
-    let three = |kind, x, k| [0, 0, 0, 11, 1, 3, 0, 1, 2, 3, 12, 0, kind, x, k];
+    let three = |kind, x, k| [0, 0, 0, 11, 1, 3, 0, 1, 2, 3, 16, 0, kind, x, k];
     says(refused(&three(4, 1, 2)), 5, 2, "the kind of limit 2 is above 3");
-    says(refused(&three(3, 1, 2)), 6, 2, "the k of limit 2 isn't 1 to 12 (RowMiss: 0)");
-    says(refused(&three(0, 3, 2)), 7, 2, "the x of limit 2 isn't 0 to its k (RowMiss: 1 to 12)");
+    says(refused(&three(3, 1, 2)), 6, 2, "the k of limit 2 isn't 1 to 16 (RowMiss: 0)");
+    says(refused(&three(0, 3, 2)), 7, 2, "the x of limit 2 isn't 0 to its k (RowMiss: 1 to 16)");
 }
 
 #[test]
@@ -44,35 +44,35 @@ fn of_sets_made_of_limits() {
     for limits in [&[][..], &[one_of_two; MOST_LIMITS + 1]] {
         says(refused(limits), 3, 0, "the set's count of limits is 0 or above 8");
     }
-    let (k_too_long, x_above_k) = (Limit::RowHit { x: 1, k: 13 }, Limit::AnyMiss { x: 3, k: 2 });
-    says(refused(&[one_of_two, k_too_long]), 6, 1, "the k of limit 1 isn't 1 to 12 (RowMiss: 0)");
-    says(refused(&[one_of_two, x_above_k]), 7, 1, "the x of limit 1 isn't 0 to its k (RowMiss: 1 to 12)");
-    for x in [0, 13] {
-        says(refused(&[Limit::RowMiss { x }]), 7, 0, "the x of limit 0 isn't 0 to its k (RowMiss: 1 to 12)");
+    let (k_too_long, x_above_k) = (Limit::RowHit { x: 1, k: 17 }, Limit::AnyMiss { x: 3, k: 2 });
+    says(refused(&[one_of_two, k_too_long]), 6, 1, "the k of limit 1 isn't 1 to 16 (RowMiss: 0)");
+    says(refused(&[one_of_two, x_above_k]), 7, 1, "the x of limit 1 isn't 0 to its k (RowMiss: 1 to 16)");
+    for x in [0, 17] {
+        says(refused(&[Limit::RowMiss { x }]), 7, 0, "the x of limit 0 isn't 0 to its k (RowMiss: 1 to 16)");
     }
 }
 
 #[test]
 fn of_builds() {
-    let mut work = [7; WORK_ENTRIES];
+    let mut work = vec![7; WORK_ENTRIES];
     let mut table = [7; 14];
     let refused = build(&SET, &mut work[1..], &mut table).unwrap_err();
-    says(refused, 8, 0, "the work area has fewer than 8192 entries");
-    assert_eq!(work, [7; WORK_ENTRIES]);
+    says(refused, 8, 0, "the work area has fewer than 131072 entries");
+    assert!(work.iter().all(|&entry| entry == 7));
     says(
         build(&SET, &mut work, &mut table).unwrap_err(),
         9,
         15,
         "the buffer is shorter than the 15 bytes to be written",
     );
-    assert_eq!((work, table), ([0; WORK_ENTRIES], [7; 14]));
+    assert!(work.iter().all(|&entry| entry == 0) && table == [7; 14]);
     assert_eq!(build(&SET[..8], &mut work, &mut table), Err(Refused::SetLength));
 }
 
 #[test]
 fn of_tables_and_guards() {
     let length = "the table has fewer than 7 bytes, or its length field isn't the count of bytes after it";
-    let states = "the table's count of states is 0 or above 2048, its length field isn't 3 + 4 times that count, \
+    let states = "the table's count of states is 0 or above 32768, its length field isn't 3 + 4 times that count, \
                   or a next state or the guard's state isn't below it";
     let cases: [(&[u8], u8, &str); 5] = [
         (&[], 10, length),
@@ -139,40 +139,60 @@ fn of_rows() {
 
 #[test]
 fn of_written_records() {
-    let mut record = [7; 33];
+    let mut record = [7; 37];
     let guard = lost();
     says(
         guard.write_record(&SET, &mut record).unwrap_err(),
         9,
-        34,
-        "the buffer is shorter than the 34 bytes to be written",
+        38,
+        "the buffer is shorter than the 38 bytes to be written",
     );
     assert_eq!(guard.write_record(&SET[..8], &mut record), Err(Refused::SetLength)); // the set before the buffer
-    assert_eq!(guard.write_record(&with(SET, 8, 13), &mut []), Err(Refused::LimitK { limit: 0 }));
-    assert_eq!(record, [7; 33]);
+    assert_eq!(guard.write_record(&with(SET, 8, 17), &mut []), Err(Refused::LimitK { limit: 0 }));
+    assert_eq!(record, [7; 37]);
 }
 
 #[test]
 fn of_records() {
     let words =
-        "the record has fewer than 25 bytes, its length field isn't the count of bytes after it, or its version \
-                 isn't 1: it was cut short or is no record, so start a new guard";
-    let mut record = [0; 34];
-    assert_eq!(lost().write_record(&SET, &mut record), Ok(34));
+        "the version of the record is neither 1 nor 2, it has fewer than 29 bytes (version 1: 25), or its length \
+                 field isn't the count of bytes after it: it was cut short or is no record, so start a new guard";
+    let mut record = [0; 38];
+    assert_eq!(lost().write_record(&SET, &mut record), Ok(38));
     let refused = |record: &[u8], table: &[u8]| Guard::read_record(record, table).unwrap_err();
-    for length in 0..34 {
+    for length in 0..38 {
         says(refused(&record[..length], &TABLE), 18, 0, words);
     }
-    says(refused(&with(record, 4, 2), &TABLE), 18, 0, words);
+    for version in [0, 3, 255] {
+        says(refused(&with(record, 4, version), &TABLE), 18, 0, words);
+    }
     assert_eq!(refused(&with(record, 9, 2), &[]), Refused::SetVersion);
-    says(refused(&with(record, 24, 2), &[]), 13, 10, "the outcome at place 10 is neither 0 nor 1");
+    says(refused(&with(record, 28, 2), &[]), 13, 14, "the outcome at place 14 is neither 0 nor 1");
     let words = "the lost byte of the record is neither 0 nor 1: its bytes were changed, so start a new guard";
-    says(refused(&with(record, 33, 2), &[]), 19, 0, words);
+    says(refused(&with(record, 37, 2), &[]), 19, 0, words);
     assert_eq!(refused(&record, &TABLE[..14]), Refused::TableLength);
     let words =
         "the outcomes of the record can't be walked on the table: build the table from the set that the record \
                  carries, or, if it was, the record's bytes were changed, so start a new guard";
-    says(refused(&with(record, 23, 0), &TABLE), 25, 0, words);
+    says(refused(&with(record, 27, 0), &TABLE), 25, 0, words);
+}
+
+/// Of version 1: 20 before 13, and the place in 13 among its own 11 outcomes.
+#[test]
+fn of_old_records() {
+    let record: [u8; 34] = [&[0, 0, 0, 30, 1][..], &SET, &[1; 11], &[0; 9]].concat().try_into().unwrap();
+    assert_eq!(Guard::read_record(&record, &TABLE), Ok(Guard::default()));
+    let refused = |record: &[u8]| Guard::read_record(record, &TABLE).unwrap_err();
+    let words =
+        "the record has version 1, and its set has a window of more than 12 jobs: a record of version 1 can only \
+                 be of shorter ones, so start a new guard";
+    let longer = with(record, 13, 13);
+    says(refused(&longer), 20, 0, words);
+    assert_eq!(refused(&with(longer, 24, 2)), Refused::OldRecord);
+    assert_eq!(refused(&with(longer, 13, 17)), Refused::LimitK { limit: 0 });
+    assert_eq!(refused(&with(record, 24, 2)), Refused::Outcome { place: 10 });
+    assert_eq!(refused(&record[..33]), Refused::Record);
+    assert_eq!(refused(&with(record, 4, 2)), Refused::SetLength); // its set would end four bytes earlier
 }
 
 #[test]
@@ -224,13 +244,13 @@ fn zeros(length: usize) -> &'static [u8] {
 
 #[test]
 fn of_comparisons() {
-    let bad = with(SET, 8, 13);
+    let bad = with(SET, 8, 17);
     let first = compare(&bad, &[]).unwrap_err();
     assert_eq!(first, RefusedSet::First(Refused::LimitK { limit: 0 }));
-    assert_eq!(first.to_string(), "first set: refusal 6: the k of limit 0 isn't 1 to 12 (RowMiss: 0)");
+    assert_eq!(first.to_string(), "first set: refusal 6: the k of limit 0 isn't 1 to 16 (RowMiss: 0)");
     let second = compare(&SET, &bad).unwrap_err();
     assert_eq!(second, RefusedSet::Second(Refused::LimitK { limit: 0 }));
-    assert_eq!(second.to_string(), "second set: refusal 6: the k of limit 0 isn't 1 to 12 (RowMiss: 0)");
+    assert_eq!(second.to_string(), "second set: refusal 6: the k of limit 0 isn't 1 to 16 (RowMiss: 0)");
 }
 
 /// `?` turns both kinds into any error.

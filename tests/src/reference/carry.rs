@@ -3,21 +3,35 @@
 use std::array::from_fn;
 
 use super::guard::{Guard, HELD};
+use super::limits::{width, OLD_LONGEST_WINDOW};
 use super::table::{check, entry};
 use super::verdict::outcomes_only;
 use super::{big_endian, refuse, sets, Refusal, HIT};
 
-/// "4 the length field", "1 the version, 1"
+/// The length field and the version.
 pub const HEAD: usize = 4 + 1;
-/// "11 the outcomes that the guard holds", "8 how many outcomes it was told", "1 if it is lost, else 0"
-pub const TAIL: usize = HELD + 8 + 1;
+/// The outcomes that the guard holds, how many it was told, and whether it is lost.
+pub const TAIL: usize = HELD + COUNT_AND_LOST;
+/// How many outcomes a record of version 1 has: one less than the longest window that its set may have.
+pub const OLD_HELD: usize = OLD_LONGEST_WINDOW - 1;
+pub const OLD_TAIL: usize = OLD_HELD + COUNT_AND_LOST;
+const COUNT_AND_LOST: usize = 8 + 1;
 
 /// The record of a guard and the bytes of a set.
 pub fn record(guard: Guard, set: &[u8]) -> Vec<u8> {
-    let mut rest = vec![1];
+    laid_out(2, guard, &guard.outcomes, set)
+}
+
+/// The record that the version before wrote of this guard, which held the newest eleven of these outcomes.
+pub fn old_record(guard: Guard, set: &[u8]) -> Vec<u8> {
+    laid_out(1, guard, &guard.outcomes[HELD - OLD_HELD..], set)
+}
+
+fn laid_out(version: u8, guard: Guard, outcomes: &[bool], set: &[u8]) -> Vec<u8> {
+    let mut rest = vec![version];
     rest.extend(set);
     // "one byte each, the oldest first"
-    rest.extend(guard.outcomes.map(|hit| if hit { 1 } else { 0 }));
+    rest.extend(outcomes.iter().map(|&hit| if hit { 1 } else { 0 }));
     // "a number of several bytes has its highest byte first"
     rest.extend((0..8).rev().map(|byte| (guard.count / 256u64.pow(byte) % 256) as u8));
     rest.push(if guard.lost { 1 } else { 0 });
@@ -26,8 +40,8 @@ pub fn record(guard: Guard, set: &[u8]) -> Vec<u8> {
     [vec![0, 0, (length / 256) as u8, (length % 256) as u8], rest].concat()
 }
 
-/// "as reading a set, of the set's bytes; then 9 with 25 and the bytes of the set". The record, where it is written into
-/// the lent bytes.
+/// As reading a set, of the set's bytes; then 9 with 29 and the bytes of the set. The record, where it is written into the
+/// lent bytes.
 pub fn write(guard: Guard, set: &[u8], lent: &mut [u8]) -> Result<Vec<u8>, Refusal> {
     sets::read(set)?;
     let needed = HEAD + TAIL + set.len();
@@ -40,17 +54,17 @@ pub fn write(guard: Guard, set: &[u8], lent: &mut [u8]) -> Result<Vec<u8>, Refus
     Ok(record)
 }
 
-/// "18; then as reading a set, of the set's bytes in it; then 13 over its 11 outcomes; then 19; then as the table check,
-/// the whole table; then 25".
+/// "18; then as reading a set, of the set's bytes in it; then 20; then 13 over its outcomes; then 19; then as the table
+/// check, the whole table; then 25".
 pub fn read(record: &[u8], table: &[u8]) -> Result<Guard, Refusal> {
-    // "the record has under 25 bytes, or its length field isn't how many bytes follow it, or its version isn't 1"
-    if record.len() < HEAD + TAIL || big_endian(&record[..4]) != record.len() - 4 || record[4] != 1 {
-        return refuse(18, 0);
+    let (set, held, tail) = parts(record)?;
+    // A set with a window of more than 12 jobs: the eleven outcomes of a version 1 record don't reach back so far.
+    let limits = sets::read(set)?;
+    if held == OLD_HELD && limits.iter().any(|&limit| width(limit) > OLD_LONGEST_WINDOW) {
+        return refuse(20, 0);
     }
-    // "The set's bytes are all that lie between the version and the last 20."
-    let (set, tail) = record[HEAD..].split_at(record.len() - HEAD - TAIL);
-    sets::read(set)?;
-    let (outcomes, tail) = tail.split_at(HELD);
+    // The place in 13 counts among the record's own outcomes.
+    let (outcomes, tail) = tail.split_at(held);
     outcomes_only(outcomes)?;
     let (count, lost) = tail.split_at(8);
     // "the lost byte of the record is more than 1"
@@ -58,8 +72,10 @@ pub fn read(record: &[u8], table: &[u8]) -> Result<Guard, Refusal> {
         return refuse(19, 0);
     }
     let n = check(table)?;
+    // Hits for the outcomes older than those of a version 1 record.
+    let outcomes = [&vec![HIT; HELD - held], outcomes].concat();
     let mut state = 0;
-    for &outcome in outcomes {
+    for &outcome in &outcomes {
         let next = entry(table, n, state)?;
         state = match (outcome, next.miss) {
             (HIT, _) => next.hit,
@@ -75,4 +91,19 @@ pub fn read(record: &[u8], table: &[u8]) -> Result<Guard, Refusal> {
         outcomes: from_fn(|place| outcomes[place] == HIT),
         count: big_endian(count) as u64,
     })
+}
+
+/// The bytes of the set, how many outcomes there are, and the bytes from these on. 18: a version that is neither 1 nor 2,
+/// fewer bytes than its records have without a set, or a length field that isn't how many bytes follow it.
+fn parts(record: &[u8]) -> Result<(&[u8], usize, &[u8]), Refusal> {
+    let (held, tail) = match record.get(4) {
+        Some(1) => (OLD_HELD, OLD_TAIL),
+        Some(2) => (HELD, TAIL),
+        _ => return refuse(18, 0),
+    };
+    if record.len() < HEAD + tail || big_endian(&record[..4]) != record.len() - 4 {
+        return refuse(18, 0);
+    }
+    let (set, tail) = record[HEAD..].split_at(record.len() - HEAD - tail);
+    Ok((set, held, tail))
 }

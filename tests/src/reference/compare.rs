@@ -1,7 +1,10 @@
 //! RULES, Covers.
 
-use super::limits::{set_keeps, Limit};
-use super::{patterns_in_order, sets, Refusal};
+use std::collections::{HashSet, VecDeque};
+
+use super::limits::{set_keeps, Limit, LONGEST_WINDOW};
+use super::table::State;
+use super::{patterns_in_order, sets, Refusal, HIT, MISS};
 
 /// A refused comparison: "a refusal says which of them, 1 or 2".
 #[derive(Clone, Copy, PartialEq, Eq, Debug)]
@@ -26,7 +29,33 @@ pub fn read_both(first: &[u8], second: &[u8]) -> Result<(Vec<Limit>, Vec<Limit>)
 }
 
 /// "there are patterns between the two, kept by A and not by B, and the answer is the first of them in the order of
-/// patterns. It has 1 to 12 jobs"
+/// patterns. It has 1 to 16 jobs"
 pub fn between(a: &[Limit], b: &[Limit]) -> Between {
-    patterns_in_order(12).find(|pattern| set_keeps(a, pattern) && !set_keeps(b, pattern))
+    between_within(LONGEST_WINDOW, a, b)
+}
+
+/// The same of sets whose windows have at most so many jobs: "never more than the longest window".
+pub fn between_within(longest: usize, a: &[Limit], b: &[Limit]) -> Between {
+    patterns_in_order(longest).find(|pattern| set_keeps(a, pattern) && !set_keeps(b, pattern))
+}
+
+/// In another way, which is quicker for long windows and asks nothing of a pattern's length: the tables of both sets,
+/// walked together in the order of patterns, as far as both walk. The first place where only the first allows a miss
+/// ends it; a pattern that leads where an earlier one led has nothing new after it.
+pub fn between_tables(a: &[State], b: &[State]) -> Between {
+    let mut seen = HashSet::from([(0, 0)]);
+    let mut next = VecDeque::from([(0, 0, Vec::new())]);
+    while let Some((p, q, pattern)) = next.pop_front() {
+        let on_miss = match (a[p].miss, b[q].miss) {
+            (Some(_), None) => return Some([&pattern[..], &[MISS]].concat()),
+            (Some(p), Some(q)) => Some((p, q, MISS)),
+            (None, _) => None,
+        };
+        for (p, q, outcome) in on_miss.into_iter().chain([(a[p].hit, b[q].hit, HIT)]) {
+            if seen.insert((p, q)) {
+                next.push_back((p, q, [&pattern[..], &[outcome]].concat()));
+            }
+        }
+    }
+    None
 }

@@ -6,10 +6,10 @@ use super::limits::{panics, set_keeps, Limit, LONGEST_WINDOW};
 use super::table::{check, counts, entry, State};
 use super::{refuse, Refusal, HIT};
 
-/// "one job less, 11, is as far as a window that a new outcome completes reaches back"
+/// "one job less, 15, is as far as a window that a new outcome completes reaches back"
 pub const HELD: usize = LONGEST_WINDOW - 1;
 
-/// "the number of a state; whether it is lost; the last 11 outcomes, as truth values, the oldest first; and how many
+/// "the number of a state; whether it is lost; the last 15 outcomes, as truth values, the oldest first; and how many
 /// outcomes it was told, a number of 64 bits"
 #[derive(Clone, Copy, PartialEq, Eq, Debug)]
 pub struct Guard {
@@ -19,7 +19,7 @@ pub struct Guard {
     pub count: u64,
 }
 
-/// "A guard with nothing told isn't lost, is in state 0, holds 11 hits and has the count 0."
+/// "A guard with nothing told isn't lost, is in state 0, holds 15 hits and has the count 0."
 pub const FRESH: Guard = Guard { state: 0, lost: false, outcomes: [true; HELD], count: 0 };
 
 #[derive(Clone, Copy, PartialEq, Eq, Debug)]

@@ -2,15 +2,18 @@
 
 use super::{HIT, MISS};
 
-#[derive(Clone, Copy, PartialEq, Eq, Debug)]
+#[derive(Clone, Copy, PartialEq, Eq, Hash, Debug)]
 pub struct Limit {
     pub kind: u8,
     pub x: u8,
     pub k: u8,
 }
 
-/// "The longest window has 12 jobs".
-pub const LONGEST_WINDOW: usize = 12;
+/// "The longest window has 16 jobs".
+pub const LONGEST_WINDOW: usize = 16;
+
+/// The longest window that the printing program takes, and the longest of a set in a record of version 1.
+pub const OLD_LONGEST_WINDOW: usize = 12;
 
 /// The column "window".
 pub fn width(limit: Limit) -> usize {
@@ -60,12 +63,18 @@ pub fn panics(set: &[Limit], pattern: &[u8]) -> bool {
 
 /// Every limit with the "allowed numbers".
 pub fn allowed_limits() -> Vec<Limit> {
+    limits_within(LONGEST_WINDOW)
+}
+
+/// Those whose windows have at most so many jobs.
+pub fn limits_within(longest: usize) -> Vec<Limit> {
+    let longest = longest as u8;
     let mut limits = Vec::new();
     for kind in 0..3 {
-        for k in 1..=12 {
+        for k in 1..=longest {
             limits.extend((0..=k).map(|x| Limit { kind, x, k }));
         }
     }
-    limits.extend((1..=12).map(|x| Limit { kind: 3, x, k: 0 }));
+    limits.extend((1..=longest).map(|x| Limit { kind: 3, x, k: 0 }));
     limits
 }

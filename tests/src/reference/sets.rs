@@ -1,9 +1,14 @@
 //! RULES, Bytes of a set and A set in memory: reading and writing.
 
-use super::limits::Limit;
+use super::limits::{Limit, LONGEST_WINDOW};
 use super::{big_endian, refuse, Refusal};
 
 pub fn read(bytes: &[u8]) -> Result<Vec<Limit>, Refusal> {
+    read_within(LONGEST_WINDOW, bytes)
+}
+
+/// The same where the longest window has so many jobs.
+pub fn read_within(longest: usize, bytes: &[u8]) -> Result<Vec<Limit>, Refusal> {
     // "the set has under 6 bytes, or its length field isn't how many bytes follow it"
     if bytes.len() < 6 || big_endian(&bytes[0..4]) != bytes.len() - 4 {
         return refuse(1, 0);
@@ -26,7 +31,7 @@ pub fn read(bytes: &[u8]) -> Result<Vec<Limit>, Refusal> {
         bytes[6..].chunks(3).map(|limit| Limit { kind: limit[0], x: limit[1], k: limit[2] }).collect();
     // "then limit after limit, each for 5, 6 and 7"
     for (number, limit) in limits.iter().enumerate() {
-        test(limit, number)?;
+        test(longest, limit, number)?;
     }
     Ok(limits)
 }
@@ -40,7 +45,7 @@ pub fn write(count: u64, places: &[Limit; 8], room: usize) -> Result<Vec<u8>, Re
     }
     let limits = &places[..count as usize];
     for (number, limit) in limits.iter().enumerate() {
-        test(limit, number)?;
+        test(LONGEST_WINDOW, limit, number)?;
     }
     // "the buffer is shorter than what must be written: .. 6+3c of a set"
     let bytes = bytes(limits);
@@ -50,18 +55,19 @@ pub fn write(count: u64, places: &[Limit; 8], room: usize) -> Result<Vec<u8>, Re
     Ok(bytes)
 }
 
-fn test(limit: &Limit, number: usize) -> Result<(), Refusal> {
+fn test(longest: usize, limit: &Limit, number: usize) -> Result<(), Refusal> {
+    let longest = longest as u8;
     // "the kind of a limit is more than 3"
     if limit.kind > 3 {
         return refuse(5, number);
     }
-    // "the k of a limit isn't 1 to 12; for kind 3, isn't 0"
-    let ks = if limit.kind == 3 { 0..=0 } else { 1..=12 };
+    // "the k of a limit isn't 1 to 16; for kind 3, isn't 0"
+    let ks = if limit.kind == 3 { 0..=0 } else { 1..=longest };
     if !ks.contains(&limit.k) {
         return refuse(6, number);
     }
-    // "the x of a limit isn't 0 to k; for kind 3, isn't 1 to 12"
-    let xs = if limit.kind == 3 { 1..=12 } else { 0..=limit.k };
+    // "the x of a limit isn't 0 to k; for kind 3, isn't 1 to 16"
+    let xs = if limit.kind == 3 { 1..=longest } else { 0..=limit.k };
     if !xs.contains(&limit.x) {
         return refuse(7, number);
     }

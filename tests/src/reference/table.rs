@@ -1,9 +1,10 @@
 //! RULES, Bytes of a table and The table of a set, and refusals 8 to 12.
 
 use std::collections::HashMap;
+use std::sync::{Arc, Mutex};
 
-use super::limits::{set_keeps, width, Limit};
-use super::{big_endian, outcomes, patterns_in_order, refuse, sets, Refusal, HIT, MISS};
+use super::limits::{width, Limit};
+use super::{big_endian, refuse, sets, Refusal, HIT, MISS};
 
 /// A state: "two for the state that follows on a miss, two for the one that follows on a hit", None where a miss isn't
 /// allowed.
@@ -13,12 +14,17 @@ pub struct State {
     pub hit: usize,
 }
 
-const WORK_ENTRIES: usize = 8192;
+/// How many entries of the work area a build needs, and clears.
+pub const WORK_ENTRIES: usize = 131_072;
+/// How many states a table has at the most.
+pub const MOST_STATES: usize = 32_768;
+/// "7+4n bytes" for the most states.
+pub const LONGEST_TABLE: usize = 7 + 4 * MOST_STATES;
 
 /// "as reading a set; then 8; then 9 with 7+4n", and else the table itself.
 pub fn build(set: &[u8], work_entries: usize, table_room: usize) -> Result<Vec<u8>, Refusal> {
     let limits = sets::read(set)?;
-    // "the work area has less than 8,192 entries of 16 bits"
+    // "the work area has less than 131,072 entries of 16 bits"
     if work_entries < WORK_ENTRIES {
         return refuse(8, 0);
     }
@@ -49,19 +55,18 @@ pub fn bytes(states: &[State]) -> Vec<u8> {
 /// What may follow a kept pattern is settled by its last outcomes, as many as share a window with the next job:
 /// its history. Histories are one state when the same continuations are kept after them.
 pub fn states(set: &[Limit]) -> Vec<State> {
-    let length = set.iter().map(|&limit| width(limit)).max().expect("a set has a limit") - 1;
-    let histories = Histories::new(set, length);
-    let classes = histories.classes();
+    let histories = Histories::new(set);
+    let in_order = histories.in_order();
+    let classes = histories.classes(&in_order);
     // "Each state has a first pattern, in the order of patterns, that leads to it, and the states are numbered in the
-    // order of their first patterns." Every history is itself a pattern of that length.
+    // order of their first patterns."
     let mut first_history = Vec::new();
     let mut number_of = HashMap::new();
-    for pattern in patterns_in_order(length) {
-        let history = histories.after(&pattern);
-        if histories.kept[history] && !number_of.contains_key(&classes[history]) {
-            number_of.insert(classes[history], first_history.len());
+    for &history in &in_order {
+        number_of.entry(classes[history]).or_insert_with(|| {
             first_history.push(history);
-        }
+            first_history.len() - 1
+        });
     }
     let number = |history: usize| number_of[&classes[history]];
     first_history
@@ -75,16 +80,19 @@ pub fn states(set: &[Limit]) -> Vec<State> {
 
 struct Histories {
     length: usize,
-    kept: Vec<bool>,
     may_miss: Vec<bool>,
 }
 
 impl Histories {
-    fn new(set: &[Limit], length: usize) -> Histories {
-        let all = || (0..1 << length).map(|history| outcomes(history, length));
-        let kept = all().map(|history| set_keeps(set, &history)).collect();
-        let may_miss = all().map(|history| set_keeps(set, &[&history[..], &[MISS]].concat())).collect();
-        Histories { length, kept, may_miss }
+    fn new(set: &[Limit]) -> Histories {
+        let length = set.iter().map(|&limit| width(limit)).max().expect("a set has a limit") - 1;
+        let mut may_miss = vec![true; 1 << length];
+        for &limit in set {
+            let page = misses_allowed(limit);
+            // Of the history a limit sees as many outcomes as its own window reaches back over.
+            may_miss.iter_mut().enumerate().for_each(|(history, may)| *may &= page[history % page.len()]);
+        }
+        Histories { length, may_miss }
     }
 
     /// "With each new outcome the bits move up by one, the outcome becomes the lowest bit, and a mask drops what is
@@ -93,32 +101,82 @@ impl Histories {
         (history * 2 + usize::from(outcome)) % (1 << self.length)
     }
 
-    /// The history after a pattern, with hits before it.
-    fn after(&self, pattern: &[u8]) -> usize {
+    /// The histories of the patterns that are kept, in the order of the first pattern that leads to each, with hits
+    /// before it: a pattern is kept where every miss in it was allowed when it came.
+    fn in_order(&self) -> Vec<usize> {
         let start = (1 << self.length) - 1;
-        pattern.iter().fold(start, |history, &outcome| self.push(history, outcome))
+        let mut reached = vec![start];
+        let mut seen = vec![false; 1 << self.length];
+        seen[start] = true;
+        let mut place = 0;
+        while let Some(&history) = reached.get(place) {
+            let miss = self.may_miss[history].then(|| self.push(history, MISS));
+            for next in miss.into_iter().chain([self.push(history, HIT)]) {
+                if !seen[next] {
+                    seen[next] = true;
+                    reached.push(next);
+                }
+            }
+            place += 1;
+        }
+        reached
     }
 
     /// Splits the histories by what can follow, one outcome further each round, until a round splits nothing.
-    fn classes(&self) -> Vec<usize> {
-        let mut classes = vec![0; self.kept.len()];
+    fn classes(&self, kept: &[usize]) -> Vec<usize> {
+        let mut classes = vec![0; self.may_miss.len()];
         let mut count = 1;
         loop {
-            let mut seen = HashMap::new();
-            let next: Vec<usize> = (0..classes.len())
-                .map(|history| {
-                    let on_miss = self.may_miss[history].then(|| classes[self.push(history, MISS)]);
-                    let fresh = seen.len();
-                    *seen.entry((on_miss, classes[self.push(history, HIT)])).or_insert(fresh)
-                })
-                .collect();
-            if seen.len() == count {
+            // Those that a hit leads to one class, and of these those that a miss leads to one class, or that allow
+            // none, are one class of the next round.
+            let mut by_hit = vec![Vec::new(); count];
+            kept.iter().for_each(|&history| by_hit[classes[self.push(history, HIT)]].push(history));
+            let mut next = vec![0; classes.len()];
+            let mut found = 0;
+            let mut by_miss = vec![(usize::MAX, 0); count + 1];
+            for (on_hit, group) in by_hit.iter().enumerate() {
+                for &history in group {
+                    let may = self.may_miss[history];
+                    let on_miss = if may { classes[self.push(history, MISS)] } else { count };
+                    if by_miss[on_miss].0 != on_hit {
+                        by_miss[on_miss] = (on_hit, found);
+                        found += 1;
+                    }
+                    next[history] = by_miss[on_miss].1;
+                }
+            }
+            if found == count {
                 return next;
             }
-            count = seen.len();
-            classes = next;
+            (classes, count) = (next, found);
         }
     }
+}
+
+/// For each history, as many outcomes as share a window of the limit with the next job, whether that job may miss: all
+/// windows with it in them hold, with hits after it. Worked out once for each limit.
+fn misses_allowed(limit: Limit) -> Arc<Vec<bool>> {
+    static PAGES: Mutex<Option<HashMap<Limit, Arc<Vec<bool>>>>> = Mutex::new(None);
+    let mut pages = PAGES.lock().expect("no test has failed here");
+    let page = pages.get_or_insert_default().entry(limit);
+    page.or_insert_with(|| Arc::new((0..1 << (width(limit) - 1)).map(|history| may_miss(limit, history)).collect()))
+        .clone()
+}
+
+/// The windows are binary numbers here, as histories are: `limits::holds` would take too long for windows of 16 jobs.
+fn may_miss(limit: Limit, history: usize) -> bool {
+    let (width, x) = (width(limit), usize::from(limit.x));
+    let hits = |jobs: usize| (1 << jobs) - 1;
+    let around = (2 * history) << (width - 1) | hits(width - 1);
+    (0..width).all(|later| {
+        let window = around >> later & hits(width);
+        match limit.kind {
+            0 => window.count_ones() as usize >= x,
+            1 => (0..=width - x).any(|place| window >> place & hits(x) == hits(x)),
+            2 => width - window.count_ones() as usize <= x,
+            _ => window != 0,
+        }
+    })
 }
 
 /// "10, 11, 12: n and the length field, then the entries of all states", and else "n".
@@ -140,9 +198,9 @@ pub fn counts(table: &[u8]) -> Result<usize, Refusal> {
     if table[4] != 1 {
         return refuse(11, 0);
     }
-    // "n is 0 or more than 2,048; or the length field isn't 3+4n"
+    // "n is 0 or more than 32,768; or the length field isn't 3+4n"
     let n = big_endian(&table[5..7]);
-    if n == 0 || n > 2048 || big_endian(&table[0..4]) != 3 + 4 * n {
+    if n == 0 || n > MOST_STATES || big_endian(&table[0..4]) != 3 + 4 * n {
         return refuse(12, 0);
     }
     Ok(n)

@@ -10,6 +10,7 @@ use std::slice;
 
 use floelinnet_tests::floe::{builder, carry, compare, guard, log, row, sets, table, verdict};
 use floelinnet_tests::reference::guard::HELD;
+use floelinnet_tests::reference::table::WORK_ENTRIES;
 use floelinnet_tests::tools;
 use programs::{file, prints, prints_given, COMPILERS};
 
@@ -60,7 +61,8 @@ const FUNCTIONS: usize = 19;
 const SET: &[u8] = &[0, 0, 0, 8, 1, 2, 3, 3, 0, 2, 2, 5];
 const OTHER: &[u8] = &[0, 0, 0, 5, 1, 1, 2, 3, 7];
 const FAULTY: &[u8] = &[0, 0, 0, 8, 1, 2, 0, 1, 2, 4, 0, 1];
-const ALL_OF_12: &[u8] = &[0, 0, 0, 5, 1, 1, 0, 12, 12];
+const ALL_OF_16: &[u8] = &[0, 0, 0, 5, 1, 1, 0, 16, 16];
+const HALF_OF_16: &[u8] = &[0, 0, 0, 5, 1, 1, 0, 8, 16];
 const PATTERN: &[u8] = &[1, 0, 1, 0, 0, 1];
 const NIGHT: &[u8] = &[1, 1, 0, 1, 1, 1, 0, 1, 0, 0];
 
@@ -83,14 +85,14 @@ fn calls() {
     line!(bytes);
     line!(sets::write_set(set, &mut bytes[1..]));
     line!(sets::write_set(set, &mut []));
-    set.limits[1].k = 13;
+    set.limits[1].k = 17;
     line!(sets::write_set(set, &mut bytes));
     set.count = 9;
     line!(sets::write_set(set, &mut bytes));
     line!(bytes);
 
     line!(verdict::judge(SET, PATTERN));
-    line!(verdict::judge(ALL_OF_12, PATTERN));
+    line!(verdict::judge(ALL_OF_16, PATTERN));
     line!(verdict::judge(SET, &[]));
     line!(verdict::judge(SET, &[1, 0, 1, 2]));
     line!(verdict::judge(FAULTY, PATTERN));
@@ -99,13 +101,20 @@ fn calls() {
     line!(compare::compare(SET, SET));
     line!(compare::compare(SET, FAULTY));
 
-    let mut work = [0; 8192];
+    let mut work = vec![0; WORK_ENTRIES];
     let needed = builder::build(SET, &mut work, &mut []);
     line!(needed);
     line!(builder::build(SET, &mut work[1..], &mut []));
     let mut built = vec![0; needed.at as usize];
     line!(builder::build(SET, &mut work, &mut built));
     line!(built);
+
+    let needed = builder::build(HALF_OF_16, &mut work, &mut []);
+    line!(needed);
+    let mut large = vec![0; needed.at as usize];
+    line!(builder::build(HALF_OF_16, &mut work, &mut large));
+    line!(table::check_table(&large));
+    line!(large.iter().fold(0, |sum: u64, &byte| sum * 31 % 1_000_003 + u64::from(byte)));
 
     line!(table::check_table(&built));
     line!(table::check_table(&[]));
@@ -158,6 +167,20 @@ fn calls() {
     record[outcomes..][..HELD].fill(0);
     line!(carry::read(&record, &built));
 
+    let mut old = vec![0, 0, 0, 21 + SET.len() as u8, 1];
+    old.extend(SET);
+    old.extend([1, 1, 1, 1, 1, 1, 1, 1, 0, 1, 0]);
+    old.extend([0, 0, 0, 0, 0, 0, 0, 9, 0]);
+    line!(carry::read(&old, &built));
+    for left in 0..old.len() {
+        line!(carry::read(&old[..left], &built));
+    }
+    for (place, byte) in [(4, 0), (4, 2), (4, 3), (12, 13), (12, 17), (24, 2), (old.len() - 1, 2)] {
+        let mut spoilt = old.clone();
+        spoilt[place] = byte;
+        line!(carry::read(&spoilt, &built));
+    }
+
     let mut guards = [guard::new(); 3];
     line!(guards);
     for _ in 0..3 {
@@ -200,7 +223,7 @@ fn calls() {
     line!(log::next(0, &empty));
 
     line!(log::judge(SET, &night));
-    line!(log::judge(ALL_OF_12, &night));
+    line!(log::judge(ALL_OF_16, &night));
     line!(log::judge(SET, &empty));
     line!(log::judge(FAULTY, &[]));
 
@@ -215,7 +238,7 @@ fn calls() {
     line!(log::next(u64::MAX, &[]));
 
     // Lost at jobs 2 and 3: the sign of a first job is seen on both sides.
-    for first in ["first: -9", "first: -8"] {
+    for first in ["first: -13", "first: -12"] {
         assert!(lines.iter().any(|line| line.contains(first)), "{first}");
     }
     prints(&file("tests/c/calls.c"), &lines.iter().map(String::as_str).collect::<Vec<_>>());
@@ -235,6 +258,8 @@ fn names() {
         ("FLOE_RECORD_SIZE(0)", floelinnet::record_size(0)),
         ("FLOE_RECORD_SIZE(9)", floelinnet::record_size(9)),
         ("FLOE_LONGEST_RECORD", floelinnet::LONGEST_RECORD),
+        ("FLOE_OLD_RECORD_SIZE(0)", floelinnet::old_record_size(0)),
+        ("FLOE_OLD_RECORD_SIZE(9)", floelinnet::old_record_size(9)),
         ("FLOE_MISS", floelinnet::MISS.into()),
         ("FLOE_HIT", floelinnet::HIT.into()),
         ("FLOE_LOG_SIZE(0)", floelinnet::log_size(0)),
@@ -294,12 +319,13 @@ fn shown_forms() {
 fn shown_record() {
     let table = [0, 0, 0, 0x0B, 1, 0, 2, 0, 1, 0, 0, 0xFF, 0xFF, 0, 0];
     let told = guard::tell(guard::start(&table).guard, &table, 0).guard;
-    let mut record = [0; 34];
-    assert_eq!(carry::write(told, &[0, 0, 0, 5, 1, 1, 0, 1, 2], &mut record).length, 34);
+    let mut record = [0; 38];
+    assert_eq!(carry::write(told, &[0, 0, 0, 5, 1, 1, 0, 1, 2], &mut record).length, 38);
     let words: Vec<String> = record.iter().map(|byte| format!("{byte:02X}")).collect();
     for page in ["include/floelinnet.h", "docs/RULES.md"] {
         let text = read_to_string(file(page)).unwrap();
-        let spaced = text.split_whitespace().collect::<Vec<_>>().join(" ");
+        // The header's lines begin with a star.
+        let spaced = text.split_whitespace().filter(|&word| word != "*").collect::<Vec<_>>().join(" ");
         assert!(spaced.contains(&words.join(" ")), "{page}: {words:?}");
     }
 }

@@ -7,12 +7,13 @@ use floelinnet_tests::reference::carry::{HEAD, TAIL};
 use floelinnet_tests::reference::{carry, sets};
 use floelinnet_tests::{expected, floe};
 
-/// A record that is accepted or spoilt, or any beginning of one.
+/// A record of either version that is accepted or spoilt, or any beginning of one.
 fn drawn_record(draw: &mut Draw) -> Vec<u8> {
     if draw.one_in(3) {
         return spoilt_record(draw);
     }
-    let mut record = carry::record(draw.guard(1), &sets::bytes(&draw.set()));
+    let (guard, set) = (draw.guard(1), sets::bytes(&draw.set()));
+    let mut record = if draw.one_in(2) { carry::record(guard, &set) } else { carry::old_record(guard, &set) };
     if draw.one_in(4) {
         record.truncate(draw.below(record.len() + 1));
     }
@@ -35,7 +36,7 @@ fn reading() {
         assert_eq!(found, want, "{record:02X?} on {table:02X?}");
         seen[found.refused as usize] += 1;
     }
-    assert!([0, 10, 12, 18, 25].iter().all(|&number| seen[number] > 100), "{seen:?}");
+    assert!([0, 10, 12, 18, 20, 25].iter().all(|&number| seen[number] > 100), "{seen:?}");
 }
 
 #[test]

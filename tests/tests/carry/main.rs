@@ -1,6 +1,7 @@
 //! The two calls on a carry-over record against the reference.
 
 mod edge;
+mod old;
 mod operations;
 mod read;
 mod round_trip;
@@ -8,7 +9,7 @@ mod vast;
 mod write;
 
 use floelinnet_tests::draw::Draw;
-use floelinnet_tests::reference::limits::Limit;
+use floelinnet_tests::reference::limits::{Limit, LONGEST_WINDOW};
 use floelinnet_tests::reference::sets;
 use floelinnet_tests::reference::table::{bytes, states, State};
 
@@ -49,8 +50,13 @@ impl Walked {
     }
 }
 
-/// So many sets by chance, each with 2 to 600 states, so that a partner's table has room for them three times.
+/// So many sets by chance, each with 2 to 600 states: a record is read with the whole table, again and again.
 fn walked(draw: &mut Draw, sets: usize) -> Vec<Walked> {
-    let drawn = std::iter::repeat_with(|| Walked::new(draw.set()));
+    walked_within(draw, LONGEST_WINDOW, sets)
+}
+
+/// Those whose windows have at most so many jobs.
+fn walked_within(draw: &mut Draw, longest: usize, sets: usize) -> Vec<Walked> {
+    let drawn = std::iter::repeat_with(|| Walked::new(draw.set_within(longest)));
     drawn.filter(|walked| (2..=600).contains(&walked.states.len())).take(sets).collect()
 }

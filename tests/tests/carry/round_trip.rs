@@ -6,7 +6,8 @@ use floelinnet_tests::draw::{cases, Draw};
 use floelinnet_tests::floe;
 use floelinnet_tests::reference::carry::TAIL;
 use floelinnet_tests::reference::guard::HELD;
-use floelinnet_tests::reference::limits::{allowed_limits, Limit};
+use floelinnet_tests::reference::limits::{allowed_limits, Limit, LONGEST_WINDOW, OLD_LONGEST_WINDOW};
+use floelinnet_tests::reference::table::{LONGEST_TABLE, WORK_ENTRIES};
 use floelinnet_tests::reference::{patterns_in_order, sets};
 
 use crate::{walked, Walked};
@@ -29,7 +30,7 @@ fn changed(guard: floe::Guard, set: &[u8], table: &[u8]) -> floe::Guard {
 }
 
 fn built(set: &[u8]) -> Vec<u8> {
-    let (mut table, mut work) = (vec![0; 8199], [0; 8192]);
+    let (mut table, mut work) = (vec![0; LONGEST_TABLE], vec![0; WORK_ENTRIES]);
     let length = floe::builder::build(set, &mut work, &mut table).length;
     table.truncate(length as usize);
     table
@@ -41,27 +42,32 @@ fn told(guard: floe::Guard, table: &[u8], outcome: u8) -> floe::Guard {
     told.guard
 }
 
-/// Every pattern of at most 12 outcomes, one more than a guard holds, under some of the limits, and one with every
-/// window's length among them. A pattern's guard is told on from that of its beginning, lost ones too.
+/// Every pattern of at most so many outcomes. A pattern's guard is told on from that of its beginning, lost ones too.
+fn every_pattern(jobs: usize, limit: Limit) {
+    let set = sets::bytes(&[limit]);
+    let table = built(&set);
+    let mut guards = vec![floe::guard::start(&table).guard];
+    let mut lost = 0;
+    for (place, pattern) in patterns_in_order(jobs).enumerate() {
+        let guard = guards[place];
+        assert_eq!(changed(guard, &set, &table), guard, "{limit:?} after {pattern:?}");
+        assert_eq!(guard.count, pattern.len() as u64);
+        lost += usize::from(guard.lost);
+        if pattern.len() < jobs {
+            guards.extend([0, 1].map(|outcome| told(guard, &table, outcome)));
+        }
+    }
+    assert!(lost > 0, "{limit:?}");
+}
+
+/// Under some of the limits, windows of 12 and of 16 jobs among them; and for small tables with one outcome more than a
+/// guard holds.
 #[test]
 fn every_short_pattern() {
-    let telling = [(0, 3, 12), (1, 2, 9), (1, 4, 12), (2, 5, 12), (2, 2, 7), (3, 12, 0), (3, 4, 0)];
-    for limit in telling.map(|(kind, x, k)| Limit { kind, x, k }) {
-        let set = sets::bytes(&[limit]);
-        let table = built(&set);
-        let mut guards = vec![floe::guard::start(&table).guard];
-        let mut lost = 0;
-        for (place, pattern) in patterns_in_order(12).enumerate() {
-            let guard = guards[place];
-            assert_eq!(changed(guard, &set, &table), guard, "{limit:?} after {pattern:?}");
-            assert_eq!(guard.count, pattern.len() as u64);
-            lost += usize::from(guard.lost);
-            if pattern.len() < 12 {
-                guards.extend([0, 1].map(|outcome| told(guard, &table, outcome)));
-            }
-        }
-        assert!(lost > 0, "{limit:?}");
-    }
+    let telling = [(0, 3, 12), (1, 2, 9), (1, 4, 16), (2, 5, 12), (2, 2, 7), (2, 3, 16), (3, 12, 0), (3, 4, 0)];
+    telling.into_iter().for_each(|(kind, x, k)| every_pattern(OLD_LONGEST_WINDOW, Limit { kind, x, k }));
+    let small = [(3, 16, 0), (1, 2, 6)];
+    small.into_iter().for_each(|(kind, x, k)| every_pattern(LONGEST_WINDOW, Limit { kind, x, k }));
 }
 
 /// Every limit alone and sets by chance, told so many outcomes that all that are held were told, with misses as dense as
@@ -71,7 +77,7 @@ fn long_stories() {
     let mut draw = Draw::new(171);
     let alone = allowed_limits().into_iter().map(|limit| vec![limit]);
     let mut lost = 0;
-    for limits in alone.chain((0..cases(100)).map(|_| draw.set())).collect::<Vec<_>>() {
+    for limits in alone.chain((0..cases(60)).map(|_| draw.set())).collect::<Vec<_>>() {
         let set = sets::bytes(&limits);
         let table = built(&set);
         let mut never = floe::guard::start(&table).guard;
@@ -88,14 +94,14 @@ fn long_stories() {
     assert!(lost > 30, "{lost}");
 }
 
-/// A window of 12 jobs that the oldest outcome held decides: AnyHit(1,12) after a hit and 11 misses is in panic. With
+/// A window of 16 jobs that the oldest outcome held decides: AnyHit(1,16) after a hit and 15 misses is in panic. With
 /// one outcome fewer in the record it would be read back before its panic.
 #[test]
 fn the_oldest_outcome_matters() {
-    let set = [0, 0, 0, 5, 1, 1, 0, 1, 12];
+    let set = [0, 0, 0, 5, 1, 1, 0, 1, LONGEST_WINDOW as u8];
     let table = built(&set);
     let mut guard = floe::guard::start(&table).guard;
-    for outcome in [1, 0, 0, 0, 0, 0, 0, 0, 0, 0, 0, 0] {
+    for outcome in [1].into_iter().chain([0; HELD]) {
         assert_eq!(floe::guard::ask(guard, &table).answer, 0);
         guard = changed(told(guard, &table, outcome), &set, &table);
     }

@@ -31,7 +31,7 @@ fn records() {
 fn sets_and_tables() {
     let set = longer(SET);
     let guard = expected::guard(FRESH);
-    for room in [0, 34, 100] {
+    for room in [0, 38, 100] {
         let mut record = vec![7; room];
         let want = floe::Written { refused: 1, at: 0, length: 0 };
         assert_eq!(floe::carry::write(guard, &set, &mut record), want);
@@ -45,8 +45,8 @@ fn sets_and_tables() {
 #[test]
 fn buffers() {
     let mut record = Vast::new(1 << 32);
-    let want = floe::Written { refused: 0, at: 0, length: 34 };
+    let want = floe::Written { refused: 0, at: 0, length: 38 };
     assert_eq!(floe::carry::write(expected::guard(FRESH), SET, &mut record), want);
-    assert_eq!(record[..34], carry::record(FRESH, SET));
-    assert_eq!(record[34..4096], vec![0; 4096 - 34]);
+    assert_eq!(record[..38], carry::record(FRESH, SET));
+    assert_eq!(record[38..4096], vec![0; 4096 - 38]);
 }

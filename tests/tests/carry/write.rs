@@ -30,33 +30,33 @@ const TABLE: &[u8] = &[0, 0, 0, 0x0B, 1, 0, 2, 0, 1, 0, 0, 0xFF, 0xFF, 0, 0];
 /// miss and doesn't hold it.
 #[test]
 fn worked() {
-    let mut want = vec![0x00, 0x00, 0x00, 0x1E, 0x01, 0x00, 0x00, 0x00, 0x05, 0x01, 0x01, 0x00, 0x01, 0x02];
-    want.extend([0x01, 0x01, 0x01, 0x01, 0x01, 0x01, 0x01, 0x01, 0x01, 0x01, 0x00]);
+    let mut want = vec![0x00, 0x00, 0x00, 0x22, 0x02, 0x00, 0x00, 0x00, 0x05, 0x01, 0x01, 0x00, 0x01, 0x02];
+    want.extend([0x01, 0x01, 0x01, 0x01, 0x01, 0x01, 0x01, 0x01, 0x01, 0x01, 0x01, 0x01, 0x01, 0x01, 0x00]);
     want.extend([0x00, 0x00, 0x00, 0x00, 0x00, 0x00, 0x00, 0x01, 0x00]);
     let told = |guard: floe::Guard, outcome| floe::guard::tell(guard, TABLE, outcome).guard;
     let missed = told(floe::guard::start(TABLE).guard, 0);
-    let mut record = [7; 34];
-    assert_eq!(floe::carry::write(missed, SET, &mut record), floe::Written { refused: 0, at: 0, length: 34 });
+    let mut record = [7; 38];
+    assert_eq!(floe::carry::write(missed, SET, &mut record), floe::Written { refused: 0, at: 0, length: 38 });
     assert_eq!(record[..], want);
 
-    assert_eq!(floe::carry::write(told(missed, 0), SET, &mut record).length, 34);
-    (want[32], want[33]) = (2, 1);
+    assert_eq!(floe::carry::write(told(missed, 0), SET, &mut record).length, 38);
+    (want[36], want[37]) = (2, 1);
     assert_eq!(record[..], want);
 
-    assert_eq!(floe::carry::write(floe::guard::new(), SET, &mut record).length, 34);
-    (want[24], want[32], want[33]) = (1, 0, 0);
+    assert_eq!(floe::carry::write(floe::guard::new(), SET, &mut record).length, 38);
+    (want[28], want[36], want[37]) = (1, 0, 0);
     assert_eq!(record[..], want);
 }
 
-/// Sets of 1 to 8 limits into every room from none to more than enough: "9 with 25 and the bytes of the set".
+/// Sets of 1 to 8 limits into every room from none to more than enough: 9 with 29 and the bytes of the set.
 #[test]
 fn every_room() {
     let mut draw = Draw::new(151);
     for count in 1..=8 {
         let limits: Vec<_> = (0..count).map(|_| draw.limit()).collect();
         let set = sets::bytes(&limits);
-        for room in 0..=60 {
-            let want = if room < 25 + 6 + 3 * count { 9 } else { 0 };
+        for room in 0..=64 {
+            let want = if room < 29 + 6 + 3 * count { 9 } else { 0 };
             assert_eq!(agree(&mut draw, FRESH, &set, room), want);
             let guard = draw.guard(6);
             assert_eq!(agree(&mut draw, guard, &set, room), want);
@@ -69,7 +69,7 @@ fn every_limit_alone() {
     let mut draw = Draw::new(152);
     for limit in allowed_limits() {
         let guard = draw.guard(6);
-        assert_eq!(agree(&mut draw, guard, &sets::bytes(&[limit]), 34), 0);
+        assert_eq!(agree(&mut draw, guard, &sets::bytes(&[limit]), 38), 0);
     }
 }
 
@@ -83,15 +83,15 @@ fn every_field_of_the_guard() {
             for place in 0..HELD {
                 let mut guard = Guard { lost, outcomes: [hits; HELD], ..FRESH };
                 guard.outcomes[place] = !hits;
-                assert_eq!(agree(&mut draw, guard, SET, 34), 0);
+                assert_eq!(agree(&mut draw, guard, SET, 38), 0);
             }
         }
         let bytes = (0..64).map(|bit| 1 << bit);
         for count in bytes.chain([0x0102_0304_0506_0708, u64::from(u32::MAX), u64::MAX - 1, u64::MAX]) {
-            assert_eq!(agree(&mut draw, Guard { lost, count, ..FRESH }, SET, 34), 0);
+            assert_eq!(agree(&mut draw, Guard { lost, count, ..FRESH }, SET, 38), 0);
         }
-        for state in [1, 255, 256, 2047, 2048, 65_535] {
-            assert_eq!(agree(&mut draw, Guard { lost, state, ..FRESH }, SET, 34), 0);
+        for state in [1, 255, 256, 2047, 2048, 32_767, 32_768, 65_535] {
+            assert_eq!(agree(&mut draw, Guard { lost, state, ..FRESH }, SET, 38), 0);
         }
     }
 }
@@ -103,8 +103,8 @@ fn any_guard_any_set_any_room() {
     let mut seen = [0; 10];
     for _ in 0..cases(100_000) {
         let set = if draw.one_in(3) { sets::bytes(&draw.set()) } else { spoilt_set(&mut draw) };
-        let needed = 25 + set.len();
-        let room = draw.of(&[0, 4, 25, needed - 1, needed, needed, needed + 1, 100]);
+        let needed = 29 + set.len();
+        let room = draw.of(&[0, 4, 29, needed - 1, needed, needed, needed + 1, 100]);
         let guard = draw.guard(6);
         seen[agree(&mut draw, guard, &set, room)] += 1;
     }

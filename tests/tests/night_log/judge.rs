@@ -52,9 +52,9 @@ fn longer_logs() {
         assert_eq!(agree(&set, &log), 0);
         let verdict = as_its_outcomes(&set, &pattern, &log);
         kept += verdict.kept;
-        lost_late += u64::from(verdict.job > 12);
+        lost_late += u64::from(verdict.job > 16);
     }
-    assert!(kept > 100 && lost_late > 100, "kept {kept}, lost after job 12 {lost_late}");
+    assert!(kept > 100 && lost_late > 100, "kept {kept}, lost after job 16 {lost_late}");
 }
 
 /// A log of a year's nights: kept for long, and lost late if at all.
@@ -92,11 +92,12 @@ fn empty_logs() {
 /// The window of a lost log, by hand: it begins in the log, with job 0, and before that.
 #[test]
 fn windows() {
-    let rows: [(Limit, &[u8], u64, i64); 5] = [
+    let rows: [(Limit, &[u8], u64, i64); 6] = [
         (Limit { kind: 3, x: 2, k: 0 }, &[0, 0], 2, 1),
         (Limit { kind: 1, x: 2, k: 5 }, &[0, 0, 0], 3, 0),
         (Limit { kind: 2, x: 2, k: 5 }, &[0, 0, 0, 1, 1, 1, 1], 3, -1),
         (Limit { kind: 0, x: 12, k: 12 }, &[0], 1, -10),
+        (Limit { kind: 0, x: 16, k: 16 }, &[0], 1, -14),
         // Jobs 7 to 11 lie in two bytes.
         (Limit { kind: 2, x: 1, k: 5 }, &[1, 1, 1, 1, 1, 1, 0, 1, 1, 1, 0, 0], 11, 7),
     ];
@@ -116,7 +117,7 @@ fn order_of_the_tests() {
         (&[0, 0, 0, 5, 1, 9, 0, 1, 2], 3, 0),
         (&[0, 0, 0, 5, 1, 2, 0, 1, 2], 4, 0),
         (&[0, 0, 0, 8, 1, 2, 0, 1, 2, 4, 1, 2], 5, 1),
-        (&[0, 0, 0, 8, 1, 2, 0, 1, 2, 1, 1, 13], 6, 1),
+        (&[0, 0, 0, 8, 1, 2, 0, 1, 2, 1, 1, 17], 6, 1),
         (&[0, 0, 0, 8, 1, 2, 0, 1, 2, 3, 0, 0], 7, 1),
         (&[0, 0, 0, 5, 1, 1, 0, 1, 1], 0, 0),
     ];
