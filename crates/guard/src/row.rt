@@ -44,7 +44,8 @@ impl Guard {
 pub fn start(row: &mut [Guard], job: usize, table: &[u8]) -> StartAnswer
     ensures { λ r. ⌜ RowStartedAs (now (row .entry)) job (now (table .entry)) r (now (row .exit)) ⌝ }
 {
-    if refuses(row.len(), job) {
+    let count = row.len();
+    if refuses(count, job) {
         return StartAnswer::Refused { number: 14, at: 0 };
     }
     let started = row[job].anew(table);
@@ -56,7 +57,8 @@ pub fn start(row: &mut [Guard], job: usize, table: &[u8]) -> StartAnswer
 pub fn ask(row: &[Guard], job: usize, table: &[u8]) -> AskAnswer
     ensures { λ r. ⌜ RowAskedAs (now (row .entry)) job (now (table .entry)) r ⌝ }
 {
-    if refuses(row.len(), job) {
+    let count = row.len();
+    if refuses(count, job) {
         return AskAnswer::Refused { number: 14, at: 0 };
     }
     let asked = row[job].ask(table);
@@ -67,7 +69,8 @@ pub fn ask(row: &[Guard], job: usize, table: &[u8]) -> AskAnswer
 pub fn tell(row: &mut [Guard], job: usize, table: &[u8], outcome: u8) -> TellAnswer
     ensures { λ r. ⌜ RowToldAs (now (row .entry)) job (now (table .entry)) outcome r (now (row .exit)) ⌝ }
 {
-    if refuses(row.len(), job) {
+    let count = row.len();
+    if refuses(count, job) {
         return TellAnswer::Refused { number: 14, at: 0 };
     }
     let told = row[job].tell(table, outcome);
