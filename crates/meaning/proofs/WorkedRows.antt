@@ -186,6 +186,7 @@ rows =
     ∷ lost (row-hit 2 5) (o ∷ o ∷ o ∷ []) 3 0 (pos 0)
     ∷ lost (any-miss 2 5) (o ∷ o ∷ o ∷ i ∷ i ∷ i ∷ i ∷ []) 3 0 (negsuc 0)
     ∷ lost (any-hit 12 12) (o ∷ []) 1 0 (negsuc 9)
+    ∷ lost (any-hit 16 16) (o ∷ []) 1 0 (negsuc 13)
     ∷ []
 
 pub rows-hold : All rows
