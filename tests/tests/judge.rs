@@ -59,7 +59,7 @@ fn every_long_window_on_random_patterns() {
             lost_late += u64::from(verdict.job > OLD_LONGEST_WINDOW as u64);
         }
     }
-    assert!(kept > 1000 && lost_late > 200, "kept {kept}, lost after job 12 {lost_late}");
+    assert!(kept > 1000 && lost_late > 100, "kept {kept}, lost after job 12 {lost_late}");
 }
 
 /// RowMiss(x) says that x misses in a row never happen, x from 1 to 16.

@@ -336,7 +336,8 @@ fn all_outcomes() {
     let limits = sets::read(&[0, 0, 0, 8, 1, 2, 2, 3, 9, 3, 3, 0]).unwrap();
     let some = Walked::new(limits);
     let partners = some.partners(&mut draw);
-    let records: [(usize, fn(Guard, &[u8]) -> Vec<u8>); 2] = [(HELD, carry::record), (OLD_HELD, carry::old_record)];
+    type Writer = fn(Guard, &[u8]) -> Vec<u8>;
+    let records: [(usize, Writer); 2] = [(HELD, carry::record), (OLD_HELD, carry::old_record)];
     for (held, record) in records {
         for lost in [false, true] {
             let mut walked = [0; 3];
