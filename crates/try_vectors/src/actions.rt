@@ -78,7 +78,7 @@ pub(crate) fn drive(guard: Guard, set: &[u8], table: &[u8], actions: &[u8]) {
 
 // The same on the table that a field gives.
 pub(crate) fn drive_on(guard: Guard, set: &[u8], table_field: &[u8], actions: &[u8]) {
-    let mut space = io::large_buffer();
+    let mut space = tables::zeros();
     let n = tables::put(table_field, &mut space);
     drive(guard, set, &space[..n], actions);
 }

@@ -176,7 +176,7 @@ fn print_held(outcomes: [bool; HELD]) {
     }
 }
 
-// As `state 1 lost, told 3, holds 11111111110`; `lost` only where it is.
+// As `state 1 lost, told 3, holds 111111111111110`; `lost` only where it is.
 pub(crate) fn print_guard(guard: Guard) {
     text::print(b"state ");
     text::print_number(guard.state as u64);

@@ -20,7 +20,7 @@ pub(crate) fn try_write(line: &[u8]) {
 
 pub(crate) fn try_read(line: &[u8]) {
     let mut record = [0u8; 320];
-    let mut table = io::large_buffer();
+    let mut table = tables::zeros();
     let n = fields::bytes(fields::field(line, 1), &mut record);
     let m = tables::put(fields::field(line, 2), &mut table);
     let guard = actions::read_back(&record[..n], &table[..m]);

@@ -30,11 +30,11 @@ cast-out-2 c = search needs
 slice-write-out-2 : tie.Need-slice-write-out-2
 slice-write-out-2 c = simp length-set (omega arith)
 
-slice-write-out-3 : tie.Need-slice-write-out-3
-slice-write-out-3 c = simp length-set (omega arith)
-
 cast-out-3 : tie.Need-cast-out-3
 cast-out-3 c = search needs
+
+slice-write-out-3 : tie.Need-slice-write-out-3
+slice-write-out-3 c = simp length-set (omega arith)
 
 slice-write-out-4 : tie.Need-slice-write-out-4
 slice-write-out-4 c = simp length-set (omega arith)
@@ -44,6 +44,12 @@ cast-out-4 c = search needs
 
 slice-write-out-5 : tie.Need-slice-write-out-5
 slice-write-out-5 c = simp length-set (omega arith)
+
+cast-out-5 : tie.Need-cast-out-5
+cast-out-5 c = search needs
+
+slice-write-out-6 : tie.Need-slice-write-out-6
+slice-write-out-6 c = simp length-set (omega arith)
 
 add-result : tie.Need-add-result
 add-result c = search needs
@@ -66,11 +72,13 @@ put-alike-spec =
     slice-write-out
     cast-out-2
     slice-write-out-2
-    slice-write-out-3
     cast-out-3
+    slice-write-out-3
     slice-write-out-4
     cast-out-4
     slice-write-out-5
+    cast-out-5
+    slice-write-out-6
     add-result
     same-length
     returns-2)
