@@ -1,5 +1,7 @@
 //! floe_compare against the reference.
 
+use std::collections::HashMap;
+
 use floelinnet_tests::damage::spoilt_set;
 use floelinnet_tests::draw::{cases, Draw};
 use floelinnet_tests::pages::pages;
@@ -7,7 +9,8 @@ use floelinnet_tests::reference::compare::{between_tables, between_within, read_
 use floelinnet_tests::reference::limits::{
     allowed_limits, limits_within, width, Limit, LONGEST_WINDOW, OLD_LONGEST_WINDOW,
 };
-use floelinnet_tests::reference::{sets, table};
+use floelinnet_tests::reference::sets;
+use floelinnet_tests::reference::table::{states, State};
 use floelinnet_tests::{expected, floe};
 
 const SHORT: usize = 4;
@@ -25,7 +28,7 @@ fn agree_by_pages(a: &[Limit], b: &[Limit]) -> usize {
 
 /// By the tables: "B keeps every pattern that A keeps", those of more than 16 jobs too.
 fn agree_by_tables(a: &[Limit], b: &[Limit]) -> usize {
-    agree(a, b, between_tables(&table::states(a), &table::states(b)))
+    agree(a, b, between_tables(&states(a), &states(b)))
 }
 
 /// All with windows of at most 4 jobs. A comparison that covers goes through all histories, however short the windows, so
@@ -45,12 +48,13 @@ fn every_short_limit_with_every_short_limit() {
 fn every_longer_limit_with_some() {
     let mut draw = Draw::new(25);
     let limits = allowed_limits();
+    let tables: HashMap<Limit, Vec<State>> = limits.iter().map(|&limit| (limit, states(&[limit]))).collect();
     let mut lengths = [0; LONGEST_WINDOW + 1];
     for &a in limits.iter().filter(|&&limit| width(limit) > SHORT) {
         let same_window: Vec<Limit> = limits.iter().copied().filter(|&b| width(b).abs_diff(width(a)) < 2).collect();
         let (near, other) = (draw.of(&same_window), draw.of(&limits));
         for (a, b) in [(a, near), (near, a), (a, other)] {
-            lengths[agree_by_tables(&[a], &[b])] += 1;
+            lengths[agree(&[a], &[b], between_tables(&tables[&a], &tables[&b]))] += 1;
         }
     }
     assert!(lengths.iter().all(|&times| times > 0), "lengths of patterns between: {lengths:?}");

@@ -1,7 +1,5 @@
 //! RULES, Covers.
 
-use std::collections::{HashSet, VecDeque};
-
 use super::limits::{set_keeps, Limit, LONGEST_WINDOW};
 use super::table::State;
 use super::{patterns_in_order, sets, Refusal, HIT, MISS};
@@ -43,19 +41,35 @@ pub fn between_within(longest: usize, a: &[Limit], b: &[Limit]) -> Between {
 /// walked together in the order of patterns, as far as both walk. The first place where only the first allows a miss
 /// ends it; a pattern that leads where an earlier one led has nothing new after it.
 pub fn between_tables(a: &[State], b: &[State]) -> Between {
-    let mut seen = HashSet::from([(0, 0)]);
-    let mut next = VecDeque::from([(0, 0, Vec::new())]);
-    while let Some((p, q, pattern)) = next.pop_front() {
+    // Where each pattern leads, and the place here of the one before its newest outcome.
+    let mut reached = vec![(0, 0, None)];
+    // For each state of the larger table the states of the other that were met with it.
+    let larger = |p: usize, q: usize| if a.len() > b.len() { (p, q) } else { (q, p) };
+    let mut met = vec![Vec::new(); a.len().max(b.len())];
+    met[0].push(0);
+    let mut place = 0;
+    while let Some(&(p, q, _)) = reached.get(place) {
         let on_miss = match (a[p].miss, b[q].miss) {
-            (Some(_), None) => return Some([&pattern[..], &[MISS]].concat()),
+            (Some(_), None) => return Some(pattern_to(&reached, place)),
             (Some(p), Some(q)) => Some((p, q, MISS)),
             (None, _) => None,
         };
         for (p, q, outcome) in on_miss.into_iter().chain([(a[p].hit, b[q].hit, HIT)]) {
-            if seen.insert((p, q)) {
-                next.push_back((p, q, [&pattern[..], &[outcome]].concat()));
+            let (state, other) = larger(p, q);
+            if !met[state].contains(&other) {
+                met[state].push(other);
+                reached.push((p, q, Some((place, outcome))));
             }
         }
+        place += 1;
     }
     None
+}
+
+/// The pattern that leads to this place, and a miss.
+fn pattern_to(reached: &[(usize, usize, Option<(usize, u8)>)], place: usize) -> Vec<u8> {
+    let before = std::iter::successors(reached[place].2, |&(before, _)| reached[before].2);
+    let mut pattern: Vec<u8> = [MISS].into_iter().chain(before.map(|(_, outcome)| outcome)).collect();
+    pattern.reverse();
+    pattern
 }
