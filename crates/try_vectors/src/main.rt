@@ -144,11 +144,11 @@ fn run(lines: &[u8]) {
     }
 }
 
-// 98,304 zeros, into which the vectors are read.
-fn input() -> [u8; 98304]
-    ensures { λ r. ⌜ 98304 ≡ length r ⌝ }
+// 131,072 zeros, into which the vectors are read.
+fn input() -> [u8; 131072]
+    ensures { λ r. ⌜ 131072 ≡ length r ⌝ }
 {
-    [0; 98304]
+    [0; 131072]
 }
 
 fn main() {
