@@ -191,28 +191,44 @@ impl Guard {
         }
     }
 
+    // The guard as it is, field by field: a copy of the whole record takes the bytes between its fields along, and a tell
+    // that copies them isn't inlined.
+    fn same(self) -> Guard
+        ensures { λ r. ⌜ r ≡ self ⌝ }
+    {
+        let state = self.state;
+        let held = self.outcomes;
+        Guard {
+            state,
+            lost: self.lost,
+            outcomes: held,
+            count: self.count,
+        }
+    }
+
     // After a job: its outcome, 1 for a hit and 0 for a miss.
     pub fn tell(self, table: &[u8], outcome: u8) -> Told
         ensures { λ r. ⌜ ToldAs (now (table .entry)) self outcome r ⌝ }
     {
+        let same = self.same();
         let state = self.state;
         let looked = table::look(table, state);
         match looked {
             Looked::Refused { number, at } => Told {
                 answer: TellAnswer::Refused { number, at },
-                guard: self,
+                guard: same,
             },
             Looked::Moves(moves) => {
                 if 1 < outcome {
                     return Told {
                         answer: TellAnswer::Refused { number: 13, at: 0 },
-                        guard: self,
+                        guard: same,
                     };
                 }
                 if MOST_TOLD <= self.count {
                     return Told {
                         answer: TellAnswer::Refused { number: 17, at: 0 },
-                        guard: self,
+                        guard: same,
                     };
                 }
                 let guard = self.moved(moves, outcome != 0);
