@@ -191,27 +191,20 @@ impl Guard {
         }
     }
 
-    // The guard as it is, field by field: a copy of the whole record takes the bytes between its fields along, and a tell
-    // that copies them isn't inlined.
-    fn same(self) -> Guard
-        ensures { λ r. ⌜ r ≡ self ⌝ }
-    {
-        let state = self.state;
-        let held = self.outcomes;
-        Guard {
-            state,
-            lost: self.lost,
-            outcomes: held,
-            count: self.count,
-        }
-    }
-
     // After a job: its outcome, 1 for a hit and 0 for a miss.
     pub fn tell(self, table: &[u8], outcome: u8) -> Told
         ensures { λ r. ⌜ ToldAs (now (table .entry)) self outcome r ⌝ }
     {
-        let same = self.same();
         let state = self.state;
+        // What a refusal gives back. A copy of the whole record would take the bytes between its fields along, and the tell
+        // wouldn't be inlined.
+        let held = self.outcomes;
+        let same = Guard {
+            state,
+            lost: self.lost,
+            outcomes: held,
+            count: self.count,
+        };
         let looked = table::look(table, state);
         match looked {
             Looked::Refused { number, at } => Told {

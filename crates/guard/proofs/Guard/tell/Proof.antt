@@ -5,7 +5,7 @@ use Prim.Native.Nat.{ℕ, _≤_}
 use borrow.Author.Tests.{lt-ltb, le-ltb, le-leb, lt-leb}
 use lib.Dec.{leb, ltb}
 use borrow.Author.Needs.{needs}
-use Rattle.table.specs.Shared.{row, passed, refused, first, outcome}
+use Rattle.table.specs.Shared.{row, passed, first, outcome}
 use Rattle.table.specs.Bytes.{machineOf}
 use Rattle.table.specs.Rows.{lookRows}
 use Rattle.table.specs.Check.{moveBy}
@@ -23,18 +23,12 @@ module _ (b : List ℕ) (g : Guard) (byte : ℕ) where
   decided : (a : TellAnswer) → first (tellRows b g byte) ≡ tellSays a → ToldAs b g byte (record { answer = a; guard = toldWhen (tellSays a) (machineOf b) g (outcome byte) })
   decided a e = record { refusal = sym e; guard = sym (ap (λ t. toldWhen t (machineOf b) g (outcome byte)) e) }
 
-  refused-with : (n v : ℕ) (same : Guard) → same ≡ g → first (tellRows b g byte) ≡ refused n v → ToldAs b g byte (record { answer = tell.Refused n v; guard = same })
-  refused-with n v same e f = let d = decided (tell.Refused n v) f in record { refusal = d .refusal; guard = e ∙ d .guard }
-
   -- where looking was passed, 13 and then 17 are left
   looked : first (lookRows b (g .state)) ≡ passed → first (tellRows b g byte) ≡ first (row 13 (ltb 1 byte) 0 ∷ row 17 (leb mostTold (g .count)) 0 ∷ [])
   looked p = passed-before (lookRows b (g .state)) (row 13 (ltb 1 byte) 0 ∷ row 17 (leb mostTold (g .count)) 0 ∷ []) p
 
   heeded : first (lookRows b (g .state)) ≡ passed → byte ≤ 1 → first (tellRows b g byte) ≡ first (row 17 (leb mostTold (g .count)) 0 ∷ [])
   heeded p h = looked p ∙ first-skip 13 0 (ltb 1 byte) (row 17 (leb mostTold (g .count)) 0 ∷ []) (le-ltb _ _ h)
-
-same-requires : tie.Need-same-requires
-same-requires c κs = search needs
 
 look-requires : tie.Need-look-requires
 look-requires c κs = search needs
@@ -47,19 +41,17 @@ enum-known-looked-2 c = search needs
 
 returns : tie.Need-returns
 returns c =
-    let k = c .before .before .before .before .before in
-    let a = k .before .before .args in
+    let a = c .before .before .before .before .before .before .before .args in
     let (p, e) = looked-moves (a .table .now) (a .self .state) (c .before .before .before .before .look .ensures) (c .before .before .looked2 .given .1) in
-    refused-with (a .table .now) (a .self) (a .outcome) 13 0 (k .same .result) (k .same .ensures)
+    decided (a .table .now) (a .self) (a .outcome) (tell.Refused 13 0)
     (looked (a .table .now) (a .self) (a .outcome) p ∙ first-here 13 0 _ _ (lt-ltb _ _ (c .if1 .taken)))
 
 returns-2 : tie.Need-returns-2
 returns-2 c =
     let l = c .before .before .before .before in
-    let k = l .before .before .before in
-    let a = k .before .before .args in
+    let a = l .before .before .before .before .before .args in
     let (p, e) = looked-moves (a .table .now) (a .self .state) (l .before .before .look .ensures) (l .looked2 .given .1) in
-    refused-with (a .table .now) (a .self) (a .outcome) 17 0 (k .same .result) (k .same .ensures)
+    decided (a .table .now) (a .self) (a .outcome) (tell.Refused 17 0)
     (heeded (a .table .now) (a .self) (a .outcome) p (c .before .before .if1 .left) ∙ first-here 17 0 _ _ (le-leb _ _ (c .if2 .taken)))
 
 moved-requires : tie.Need-moved-requires
@@ -67,10 +59,9 @@ moved-requires c κs = search needs
 
 returns-3 : tie.Need-returns-3
 returns-3 c =
-    let k = c .before .before .before .before in
-    let a = k .before .before .args in
+    let a = c .before .before .before .before .before .before .args in
     let r = looked-refused (a .table .now) (a .self .state) (c .before .before .before .look .ensures) (c .before .looked .given .1) in
-    refused-with (a .table .now) (a .self) (a .outcome) _ _ (k .same .result) (k .same .ensures) (refused-before _ _ r)
+    decided (a .table .now) (a .self) (a .outcome) (tell.Refused _ _) (refused-before _ _ r)
 
 returns-4 : tie.Need-returns-4
 unfolding first
@@ -89,7 +80,6 @@ pub tell-spec : {M : Type 1} → statement M
 tell-spec =
     tie.close
     (tie.spec
-    same-requires
     look-requires
     enum-known-looked
     enum-known-looked-2
