@@ -13,8 +13,6 @@ use floelinnet_tests::reference::sets;
 use floelinnet_tests::reference::table::{states, State};
 use floelinnet_tests::{expected, floe};
 
-const SHORT: usize = 4;
-
 /// Both answers agree; gives the length of the pattern between the sets.
 fn agree(a: &[Limit], b: &[Limit], between: Between) -> usize {
     let want = expected::comparison(Ok(between));
@@ -31,11 +29,10 @@ fn agree_by_tables(a: &[Limit], b: &[Limit]) -> usize {
     agree(a, b, between_tables(&states(a), &states(b)))
 }
 
-/// All with windows of at most 4 jobs. A comparison that covers goes through all histories, however short the windows, so
-/// these are no quicker than others.
+/// All with windows of at most 12 jobs.
 #[test]
-fn every_short_limit_with_every_short_limit() {
-    let limits = limits_within(SHORT);
+fn every_limit_with_every_limit() {
+    let limits = limits_within(OLD_LONGEST_WINDOW);
     for &a in &limits {
         for &b in &limits {
             agree_by_pages(&[a], &[b]);
@@ -43,21 +40,23 @@ fn every_short_limit_with_every_short_limit() {
     }
 }
 
-/// Each limit with a longer window with one that is near, both ways, and with any other.
+/// Each limit with a longer window with some that are near, both ways, and with some others.
 #[test]
 fn every_longer_limit_with_some() {
     let mut draw = Draw::new(25);
     let limits = allowed_limits();
     let tables: HashMap<Limit, Vec<State>> = limits.iter().map(|&limit| (limit, states(&[limit]))).collect();
     let mut lengths = [0; LONGEST_WINDOW + 1];
-    for &a in limits.iter().filter(|&&limit| width(limit) > SHORT) {
+    for &a in limits.iter().filter(|&&limit| width(limit) > OLD_LONGEST_WINDOW) {
         let same_window: Vec<Limit> = limits.iter().copied().filter(|&b| width(b).abs_diff(width(a)) < 2).collect();
-        let (near, other) = (draw.of(&same_window), draw.of(&limits));
-        for (a, b) in [(a, near), (near, a), (a, other)] {
-            lengths[agree(&[a], &[b], between_tables(&tables[&a], &tables[&b]))] += 1;
+        for _ in 0..3 {
+            let (near, other) = (draw.of(&same_window), draw.of(&limits));
+            for (a, b) in [(a, near), (near, a), (a, other)] {
+                lengths[agree(&[a], &[b], between_tables(&tables[&a], &tables[&b]))] += 1;
+            }
         }
     }
-    assert!(lengths.iter().all(|&times| times > 0), "lengths of patterns between: {lengths:?}");
+    assert!(lengths[1..].iter().filter(|&&times| times > 0).count() > 8, "lengths of patterns between: {lengths:?}");
 }
 
 /// A set, and one that is drawn afresh, differs little or is a part of it.
@@ -79,11 +78,11 @@ fn pair(draw: &mut Draw, longest: usize) -> (Vec<Limit>, Vec<Limit>) {
 fn random_pairs() {
     let mut draw = Draw::new(21);
     let mut lengths = [0; OLD_LONGEST_WINDOW + 1];
-    for _ in 0..cases(600) {
+    for _ in 0..cases(20_000) {
         let (a, b) = pair(&mut draw, OLD_LONGEST_WINDOW);
         lengths[agree_by_pages(&a, &b)] += 1;
     }
-    assert!(lengths[..8].iter().all(|&times| times > 3), "lengths of patterns between: {lengths:?}");
+    assert!(lengths.iter().all(|&times| times > 3), "lengths of patterns between: {lengths:?}");
 }
 
 #[test]
@@ -101,7 +100,7 @@ fn random_pairs_with_long_windows() {
 #[test]
 fn random_pairs_literally() {
     let mut draw = Draw::new(22);
-    for _ in 0..cases(40) {
+    for _ in 0..cases(300) {
         let (a, b) = pair(&mut draw, OLD_LONGEST_WINDOW);
         agree(&a, &b, between_within(OLD_LONGEST_WINDOW, &a, &b));
     }
