@@ -6,4 +6,5 @@ pub mod Grow
 pub mod Placing
 pub mod Converge
 pub mod Told
+pub mod Marks
 pub mod Stages

@@ -5,8 +5,10 @@ use mathlib.Core.List.{List}
 use Prim.Native.Nat.{ℕ, suc, _^_, _≤_, _<_}
 use lib.ListN.{getD}
 use Rattle.machines.specs.Same.{SameTo}
+use Rattle.meaning.specs.declared.Limit.{Limit}
 use Rattle.meaning.specs.declared.LimitSet.{LimitSet}
-use Rattle.history.specs.MayMiss.{mayMiss}
+use Rattle.meaning.specs.Limit.{ruleOf}
+use Rattle.history.specs.MayMiss.{mayMissUnder, mayMiss}
 use Rattle.history.specs.Machine.{historyMachine}
 use Rattle.classes.specs.Area.{high, classAt, mayAt, Within}
 use Rattle.classes.specs.Classed.{Classed}
@@ -18,13 +20,27 @@ pub record Stage (s : LimitSet) (m k : ℕ) (w : List ℕ) : Type 0 where
   pub same : (h : ℕ) → h < 2 ^ m → SameTo (historyMachine s m) k (classAt w h) h
   pub least : (g h : ℕ) → g < 2 ^ m → h < 2 ^ m → SameTo (historyMachine s m) k g h → classAt w h ≤ g
 
+-- the n histories have the entries that f says, and nothing past the four regions changes
+pub record Entered (n : ℕ) (f : ℕ → ℕ) (w w′ : List ℕ) : Type 0 where
+  pub within : Within n w w′
+  pub entries : (h : ℕ) → h < n → getD w′ h 0 ≡ f h
+
+-- a mark and class 0, and what a limit leaves of an entry: nothing where no miss may follow
+abbrev pub marked : ℕ → ℕ
+marked h = high
+
+abbrev pub leftOf : Limit → (h entry : ℕ) → ℕ
+leftOf l h entry = cond (mayMissUnder (ruleOf l) h) entry 0
+
+abbrev pub leftIn : Limit → List ℕ → ℕ → ℕ
+leftIn l w h = leftOf l h (getD w h 0)
+
 -- before the first round all are in class 0
 abbrev pub firstEntry : LimitSet → ℕ → ℕ
 firstEntry s h = cond (mayMiss s h) high 0
 
-pub record Started (s : LimitSet) (n : ℕ) (w w′ : List ℕ) : Type 0 where
-  pub within : Within n w w′
-  pub entries : (h : ℕ) → h < n → getD w′ h 0 ≡ firstEntry s h
+abbrev pub Started : LimitSet → (n : ℕ) → (w w′ : List ℕ) → Type 0
+Started s n w w′ = Entered n (firstEntry s) w w′
 
 -- the classes of a round become those of the last one
 pub record Renewed (n : ℕ) (w w′ : List ℕ) : Type 0 where

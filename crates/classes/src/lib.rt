@@ -5,12 +5,14 @@ ghost use mathlib.Core.Bool.{true, false};
 ghost use Prim.Native.Nat.{ℕ, _+_, _-_, _*_, _^_, _≤_, _<_};
 ghost use lib.ListN.{length, getD};
 ghost use Rattle.meaning.specs.Longest.{longest};
+ghost use Rattle.meaning.specs.Limit.{Allowed};
 ghost use Rattle.meaning.specs.Sets.{SetAllowed};
 ghost use Rattle.classes.specs.Area.{used, high, classAt, Within};
 ghost use Rattle.classes.specs.Classed.{Classed};
 ghost use Rattle.classes.specs.Signature.{sig, bucket};
 ghost use Rattle.classes.specs.Chain.{newClass, Room, Placed, Chained, Found, Kept, Rounded};
-ghost use Rattle.classes.specs.Stage.{firstEntry, Started, Renewed, Refined};
+ghost use Rattle.classes.specs.Stage.{Entered, marked, leftOf, leftIn, Started, Renewed, Refined};
+use meaning::Limit;
 use meaning::LimitSet;
 
 // Of n histories the work area has four regions, n entries each. The first has the classes of the last round, with
@@ -143,23 +145,50 @@ fn refine(work: &mut [u16], n: usize) -> bool
     true
 }
 
-// The entry of a history before the first round.
-fn first_entry(set: LimitSet, h: usize) -> u16
-    requires { ⌜ SetAllowed longest set × (h < high) ⌝ }
-    ensures { λ r. ⌜ r ≡ firstEntry set h ⌝ }
+// Before the first round: a mark for every history, and no class.
+fn mark(n: usize, work: &mut [u16])
+    requires { ⌜ Room n (now work) ⌝ }
+    ensures { λ _. ⌜ Entered n marked (now (work .entry)) (now (work .exit)) ⌝ }
 {
-    if history::may_miss(set, h as u16) {
-        return MAY_MISS;
+    for h in 0..n {
+        work[h] = MAY_MISS;
+    }
+}
+
+// What a limit leaves of an entry of the first region.
+fn left_of(limit: Limit, h: usize, entry: u16) -> u16
+    requires { ⌜ Allowed longest limit × (h < high) ⌝ }
+    ensures { λ r. ⌜ r ≡ leftOf limit h entry ⌝ }
+{
+    if history::limit_may_miss(limit, h as u16) {
+        return entry;
     }
     0
 }
 
+// Takes the marks of the histories after which a limit allows no miss.
+fn unmark(limit: Limit, n: usize, work: &mut [u16])
+    requires { ⌜ Allowed longest limit × Room n (now work) ⌝ }
+    ensures { λ _. ⌜ Entered n (leftIn limit (now (work .entry))) (now (work .entry)) (now (work .exit)) ⌝ }
+{
+    for h in 0..n {
+        let entry = work[h];
+        work[h] = left_of(limit, h, entry);
+    }
+}
+
+// Limit by limit: asked history by history, the set would be copied for each.
 fn start(set: LimitSet, n: usize, work: &mut [u16])
     requires { ⌜ SetAllowed longest set × Room n (now work) ⌝ }
     ensures { λ _. ⌜ Started set n (now (work .entry)) (now (work .exit)) ⌝ }
 {
-    for h in 0..n {
-        work[h] = first_entry(set, h);
+    mark(n, work);
+    let count = set.count;
+    let mut i = 0;
+    while i < count {
+        let limit = set.limits[i];
+        unmark(limit, n, work);
+        i += 1;
     }
 }
 

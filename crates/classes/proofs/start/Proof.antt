@@ -1,62 +1,72 @@
--- `classes::start`: the entries below h are the first ones, and those from h on are as they were. Assumes nothing.
-use mathlib.Core.Path.{_≡_, _∙_}
-use Prim.Native.Nat.{ℕ, _-_, _≤_, _<_}
+-- `classes::start`: after i limits a mark is left where these leave it. Assumes nothing.
+use mathlib.Core.Path.{_∙_}
+use Prim.Native.Nat.{_-_, _≤_}
 use native.Mathlib.Omega.{arith}
 use borrow.Author.Needs.{needs}
-use borrow.Author.Count.{below-more}
-use lib.ListN.{length, getD, set, length-set}
-use lib.Seq.{getD-set-same, getD-set-other}
-use Rattle.classes.specs.Stage.{firstEntry}
+use Rattle.classes.specs.Chain.{Room}
+use Rattle.classes.specs.Stage.{Entered}
+use Rattle.classes.proofs.Keeping.{room-kept}
+use Rattle.classes.proofs.Marks.{leftBy, marked-first, marked-next, marked-all}
 use Rattle.classes.proofs.start.Statement.{statement}
 use Rattle.classes.proofs.start.Tie as tie
 
 abbrev Inv-loop : tie.InvT-loop
-Inv-loop set n work₀ h₀ work h = (h ≤ n) × (length work ≡ length work₀) × ((g : ℕ) → g < h → getD work g 0 ≡ firstEntry set g) × ((g : ℕ) → h ≤ g → getD work g 0 ≡ getD work₀ g 0)
+Inv-loop n work₀ set count i₀ work i = (i ≤ count) × Room n work × Entered n (leftBy set i) work₀ work
 
 abbrev μ-loop : tie.MeasureT-loop
-μ-loop set n work₀ h₀ work h = n - h
+μ-loop n work₀ set count i₀ work i = count - i
+
+mark-requires : tie.Need-mark-requires Inv-loop μ-loop
+mark-requires c κs = search needs
 
 loop-holds : tie.Need-loop-holds Inv-loop μ-loop
-loop-holds c = search needs
+loop-holds c =
+    let m = c .before .before in
+    let s = m .before .before .before in
+    let e = m .mark .ensures in
+    (omega arith, room-kept (s .args .n) (s .args .work .now) _ (e .within .length-stays) (s .pre .1), marked-first (s .args .t1) (s .args .n) (s .args .work .now) _ e)
 
-first-entry-requires : tie.Need-first-entry-requires Inv-loop μ-loop
-first-entry-requires c κs = search needs
+mul-limit : tie.Need-mul-limit Inv-loop μ-loop
+mul-limit c = search needs
 
-mul-work : tie.Need-mul-work Inv-loop μ-loop
-mul-work c = search needs
+element-copy-out-limit : tie.Need-element-copy-out-limit Inv-loop μ-loop
+element-copy-out-limit c = search needs
 
-slice-write-work : tie.Need-slice-write-work Inv-loop μ-loop
-slice-write-work c = search needs
+unmark-requires : tie.Need-unmark-requires Inv-loop μ-loop
+unmark-requires c κs =
+    let l = c .before .before .before in
+    (l .before .before .before .before .before .before .pre .0 .each (l .loop .i) (c .before .before .loop-test .taken), l .loop .inv .1)
 
-add-h : tie.Need-add-h Inv-loop μ-loop
-add-h c = search needs
+add-i : tie.Need-add-i Inv-loop μ-loop
+add-i c = search needs
 
 loop-less : tie.Need-loop-less Inv-loop μ-loop
 loop-less c = search needs
 
 loop-again : tie.Need-loop-again Inv-loop μ-loop
 loop-again c =
-    let l = c .before .before in
+    let u = c .before .before in
+    let l = u .before .before .before .before in
+    let s = l .before .before .before .before .before .before in
     let w = l .loop .work in
-    let h = l .loop .h in
-    let I = l .loop .inv in
-    let v : ℕ = c .first-entry .result in (
+    let e = u .unmark .ensures in (
       omega arith,
-      length-set w h v ∙ I .1,
-      below-more _ h (λ g k. getD-set-other w h g v 0 (omega arith) ∙ I .2 g k) (getD-set-same w h v 0 (omega arith) ∙ c .first-entry .ensures),
-      λ g k. getD-set-other w h g v 0 (omega arith) ∙ I .3 g (omega arith),
+      room-kept (s .args .n) w _ (e .within .length-stays) (l .loop .inv .1),
+      marked-next (s .args .t1) (s .args .n) (l .loop .i) _ w _ (l .loop .inv .2) e,
     )
 
 same-length : tie.Need-same-length Inv-loop μ-loop
-same-length c = search needs
+same-length c =
+    let l = c .before in
+    let m = l .before .before .before in
+    l .loop .inv .2 .within .length-stays ∙ m .mark .ensures .within .length-stays
 
 returns : tie.Need-returns Inv-loop μ-loop
 returns c =
-    let I = c .before .loop .inv in
-    record {
-      within = record { length-stays = I .1; beyond = λ k l. I .3 k (omega arith) };
-      entries = λ h l. I .2 h (omega arith);
-    }
+    let l = c .before in
+    let m = l .before .before .before in
+    let s = m .before .before .before in
+    marked-all (s .args .t1) (s .args .n) (l .loop .i) (s .args .work .now) _ _ (omega arith) (m .mark .ensures) (l .loop .inv .2)
 
 pub start-spec : {M : Type 1} → statement M
 start-spec =
@@ -64,11 +74,12 @@ start-spec =
     (tie.spec
     Inv-loop
     μ-loop
+    mark-requires
     loop-holds
-    first-entry-requires
-    mul-work
-    slice-write-work
-    add-h
+    mul-limit
+    element-copy-out-limit
+    unmark-requires
+    add-i
     loop-less
     loop-again
     same-length
