@@ -1,21 +1,12 @@
 -- An entry of the first region holds a class below its high bit, so the class and the bit are read and written apart. Assumes nothing.
-use mathlib.Core.Path.{_≡_, refl, sym, _∙_}
+use mathlib.Core.Path.{_≡_, sym, _∙_}
 use mathlib.Core.Logic.{dite}
-use mathlib.Core.Bool.{Bool, true, false, cond}
 use Prim.Native.Nat.{ℕ, _+_, _*_, _/_, _%_, _<_}
 use native.Mathlib.Decide.{decLt}
 use native.Mathlib.Omega.{arith}
 use borrow.Author.Tests.{lt-leb, le-leb}
 use lib.Dec.{leb}
 use Rattle.classes.specs.Area.{high}
-
-pub first-entry-may : (b : Bool) → leb high (cond b high 0) ≡ b
-first-entry-may true = refl
-first-entry-may false = refl
-
-pub first-entry-class : (b : Bool) → cond b high 0 % high ≡ 0
-first-entry-class true = refl
-first-entry-class false = refl
 
 module _ (entry class : ℕ) (small : class < high) where
   pub renewed-class : (entry / high * high + class) % high ≡ class

@@ -7,4 +7,5 @@ pub mod Placing
 pub mod Converge
 pub mod Told
 pub mod Marks
+pub mod OneJob
 pub mod Stages

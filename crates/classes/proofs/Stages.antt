@@ -1,40 +1,21 @@
--- A round makes of the classes of k jobs those of k + 1, one that changes nothing is the last, and from the start m are enough. Assumes nothing.
-use mathlib.Core.Path.{_≡_, refl, sym, ap, _∙_, subst}
-use mathlib.Core.List.{List, [], _∷_}
-use Prim.Native.Nat.{ℕ, suc, _%_, _^_, _<_}
+-- A round makes of the classes of k jobs those of k + 1, one that changes nothing is the last, and m are enough. Assumes nothing.
+use mathlib.Core.Path.{_≡_, sym, ap, _∙_, subst}
+use mathlib.Core.List.{List}
+use Prim.Native.Nat.{ℕ, suc, _%_, _^_, _≤_, _<_}
 use native.Mathlib.Omega.{arith}
 use lib.Dec.{leb}
 use lib.ListN.{getD}
-use Rattle.machines.specs.Machine.{Machine}
 use Rattle.machines.specs.Same.{Same, SameTo}
 use Rattle.machines.proofs.Rounds.{round-ends}
 use Rattle.meaning.specs.declared.LimitSet.{LimitSet}
-use Rattle.history.specs.MayMiss.{mayMiss}
 use Rattle.history.specs.Machine.{historyMachine}
 use Rattle.classes.specs.Area.{high, classAt}
 use Rattle.classes.specs.Classed.{Classed}
 use Rattle.classes.specs.Signature.{sig}
 use Rattle.classes.specs.Chain.{newClass, Rounded}
-use Rattle.classes.specs.Stage.{Stage, Started, Renewed}
+use Rattle.classes.specs.Stage.{Stage, Renewed}
 use Rattle.classes.proofs.Converge.{history-well-made, same-in-m}
-use Rattle.classes.proofs.Entries.{first-entry-may, first-entry-class}
 use Rattle.classes.proofs.Told.{same-class, sig-same, same-sig}
-
--- no job tells anything apart
-same-in-none : (M : Machine) (a b : ℕ) → SameTo M 0 a b
-same-in-none M a b [] h = (λ c. (b, refl), λ c. (a, refl))
-same-in-none M a b (o ∷ p) h = absurd (omega arith)
-
-pub stage-start : (s : LimitSet) (m n : ℕ) (w w₁ : List ℕ) → n ≡ 2 ^ m → Started s n w w₁ → Stage s m 0 w₁
-stage-start s m n w w₁ e B = record {
-  may = λ h l. ap (leb high) (B .entries h (omega arith)) ∙ first-entry-may (mayMiss s h);
-  no-greater = λ h l. omega (arith, class-0 h l);
-  same = λ h l. same-in-none (historyMachine s m) (classAt w₁ h) h;
-  least = λ g h i l t. omega (arith, class-0 h l);
-}
-  where
-    class-0 : (h : ℕ) → h < 2 ^ m → classAt w₁ h ≡ 0
-    class-0 h l = ap (λ z. z % high) (B .entries h (omega arith)) ∙ first-entry-class (mayMiss s h)
 
 -- where k jobs tell all apart that can be told apart
 stage-classed : (s : LimitSet) (m k : ℕ) (w : List ℕ) → Stage s m k w
@@ -46,8 +27,8 @@ stage-classed s m k w S all = record {
   least = λ g h i l t. S .least g h i l (λ p _. t p);
 }
 
-pub stage-end : (s : LimitSet) (m : ℕ) (w : List ℕ) → Stage s m m w → Classed s m w
-stage-end s m w S = stage-classed s m m w S (same-in-m s m)
+pub stage-end : (s : LimitSet) (m k : ℕ) (w : List ℕ) → m ≤ k → Stage s m k w → Classed s m w
+stage-end s m k w h S = stage-classed s m k w S (λ a b ha hb t. same-in-m s m a b ha hb (λ p l. t p (omega arith)))
 
 module _ (s : LimitSet) (m k n : ℕ) (w w₁ : List ℕ) (e : n ≡ 2 ^ m) (R : Rounded n w w₁) (S : Stage s m k w) where
   first : (h : ℕ) → h < 2 ^ m → getD w₁ h 0 ≡ getD w h 0

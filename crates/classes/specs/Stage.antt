@@ -2,7 +2,8 @@
 use mathlib.Core.Path.{_≡_}
 use mathlib.Core.Bool.{Bool, true, false, cond}
 use mathlib.Core.List.{List}
-use Prim.Native.Nat.{ℕ, suc, _^_, _≤_, _<_}
+use Prim.Native.Nat.{ℕ, suc, _+_, _^_, _≤_, _<_}
+use lib.Dec.{eqb}
 use lib.ListN.{getD}
 use Rattle.machines.specs.Same.{SameTo}
 use Rattle.meaning.specs.declared.Limit.{Limit}
@@ -41,6 +42,21 @@ firstEntry s h = cond (mayMiss s h) high 0
 
 abbrev pub Started : LimitSet → (n : ℕ) → (w w′ : List ℕ) → Type 0
 Started s n w w′ = Entered n (firstEntry s) w w′
+
+-- r is the least of n histories whose entry isn't that of history 0, or n
+pub record FirstApart (n : ℕ) (w : List ℕ) (r : ℕ) : Type 0 where
+  pub within : r ≤ n
+  pub before : (g : ℕ) → g < r → getD w g 0 ≡ getD w 0 0
+  pub here : r < n → getD w r 0 ≡ getD w 0 0 → ⊥
+
+-- an entry with its class after one job, where `other` is told apart from history 0
+abbrev pub partedOf : (first entry other : ℕ) → ℕ
+partedOf first entry other = cond (eqb entry first) entry (entry + other)
+
+pub record Parted (n : ℕ) (w w′ : List ℕ) : Type 0 where
+  pub other : ℕ
+  pub apart : FirstApart n w other
+  pub entered : Entered n (λ h. partedOf (getD w 0 0) (getD w h 0) other) w w′
 
 -- the classes of a round become those of the last one
 pub record Renewed (n : ℕ) (w w′ : List ℕ) : Type 0 where

@@ -11,7 +11,7 @@ ghost use Rattle.classes.specs.Area.{used, high, classAt, Within};
 ghost use Rattle.classes.specs.Classed.{Classed};
 ghost use Rattle.classes.specs.Signature.{sig, bucket};
 ghost use Rattle.classes.specs.Chain.{newClass, Room, Placed, Chained, Found, Kept, Rounded};
-ghost use Rattle.classes.specs.Stage.{Entered, marked, leftOf, leftIn, Started, Renewed, Refined};
+ghost use Rattle.classes.specs.Stage.{Entered, marked, leftOf, leftIn, Started, FirstApart, partedOf, Parted, Renewed, Refined};
 use meaning::Limit;
 use meaning::LimitSet;
 
@@ -192,13 +192,54 @@ fn start(set: LimitSet, n: usize, work: &mut [u16])
     }
 }
 
+// The least history whose entry isn't that of history 0, or n where there is none.
+fn first_apart(work: &[u16], n: usize) -> usize
+    requires { ⌜ Room n (now work) ⌝ }
+    ensures { λ r. ⌜ FirstApart n (now (work .entry)) r ⌝ }
+{
+    let first = work[0];
+    let mut h = 0;
+    while h < n {
+        if work[h] != first {
+            return h;
+        }
+        h += 1;
+    }
+    n
+}
+
+// An entry with its class after one job: history 0, or the least that one job tells apart from it.
+fn parted(first: u16, entry: u16, other: usize) -> u16
+    requires { ⌜ (entry ≤ high) × (other ≤ high) × ((entry ≡ first → ⊥) → other < high) ⌝ }
+    ensures { λ r. ⌜ r ≡ partedOf first entry other ⌝ }
+{
+    if entry == first {
+        return entry;
+    }
+    entry + other as u16
+}
+
+// What a first round would make of the marks: one job tells two histories apart only by whether it may be a miss.
+fn part(n: usize, work: &mut [u16])
+    requires { ⌜ Room n (now work) × ((h : ℕ) → h < n → getD (now work) h 0 ≤ high) ⌝ }
+    ensures { λ _. ⌜ Parted n (now (work .entry)) (now (work .exit)) ⌝ }
+{
+    let other = first_apart(work, n);
+    let first = work[0];
+    for h in 0..n {
+        let entry = work[h];
+        work[h] = parted(first, entry, other);
+    }
+}
+
 // The classes of the n histories of m outcomes.
 pub fn classes(set: LimitSet, m: usize, n: usize, work: &mut [u16])
     requires { ⌜ (n ≡ 2 ^ m) × (m ≤ longest - 1) × SetAllowed longest set × (used n ≤ length (now work)) ⌝ }
     ensures { λ _. ⌜ Classed set m (now (work .exit)) × Within n (now (work .entry)) (now (work .exit)) ⌝ }
 {
     start(set, n, work);
-    for i in 0..m {
+    part(n, work);
+    for i in 1..m {
         if !refine(work, n) {
             return;
         }
