@@ -12,7 +12,8 @@ use crate::{raw, Refused};
 /// thread that hasn't much of it has them elsewhere.
 ///
 /// Refuses by 1 to 7, then by 8, then by 9 with the length that is needed. Whether it builds or refuses by 9, it leaves
-/// the first [`WORK_ENTRIES`](crate::WORK_ENTRIES) entries of `work` zero. Nothing else is written, but for the table where it builds.
+/// the first [`WORK_ENTRIES`](crate::WORK_ENTRIES) entries of `work` zero. Nothing else is written, but for the table
+/// where it builds.
 ///
 /// ```
 /// use floelinnet::{build, Refused, LONGEST_TABLE, WORK_ENTRIES};
