@@ -1,8 +1,8 @@
 /*
  * How much stack each function uses: it is called on a stack that was painted before, and what is no longer painted was
  * used. Counted from a call that does nothing, with the record of the answer, the most of several calls: one that is
- * answered and one that is refused, of verdicts one that is lost besides, and of records one of version 1. Linked with -z now, so that the dynamic
- * linker's own stack isn't counted.
+ * answered and one that is refused, of verdicts one that is lost besides, and of records one of version 1. Linked with
+ * -z now, so that the dynamic linker's own stack isn't counted.
  */
 #define _XOPEN_SOURCE 700
 #include <floelinnet.h>
