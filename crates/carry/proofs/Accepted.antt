@@ -5,7 +5,7 @@ use mathlib.Core.List.{List}
 use Prim.Native.Nat.{ℕ, suc, _-_, _≤_, _<_}
 use native.Mathlib.Omega.{arith}
 use borrow.Author.Tests.{le-leb, leb-true, ltb-false}
-use lib.Dec.{T, leb}
+use lib.Dec.{leb}
 use lib.ListN.{length}
 use Rattle.layout.specs.Bytes.{lengthField, version}
 use Rattle.layout.specs.Refusal.{passed, first}
@@ -17,21 +17,17 @@ use Rattle.meaning.specs.declared.LimitSet.{LimitSet}
 use Rattle.meaning.specs.Limit.{width}
 use Rattle.meaning.specs.Sets.{SetAllowed, ruleAt}
 use Rattle.meaning.specs.Test.{every}
-use Rattle.meaning.proofs.Decide.{T-of, every-at, every-from}
+use Rattle.meaning.proofs.Decide.{T-of, T-true, every-at, every-from}
 use Rattle.meaning.proofs.Widths.{width-allowed, set-narrower}
 use Rattle.sets.specs.Bytes.{setOf}
 use Rattle.sets.specs.Rows.{setRows}
-use Rattle.sets.proofs.Accepted.{accepted-head, accepted-allowed, passed-rows}
+use Rattle.sets.proofs.Accepted.{accepted-head, accepted-allowed, accepted-something, passed-rows}
 use Rattle.carry.specs.Bytes.{aroundSet, setIn, outcomeBytes, lostByte}
 use Rattle.carry.specs.Rows.{wider, versionRows}
 
 -- every window of the set has at most so many jobs
 abbrev noWider : ℕ → LimitSet → Bool
 noWider most s = every (s .count) (λ i. leb (width (ruleAt s i)) most)
-
-T-true : (x : Bool) → T x → x ≡ true
-T-true true t = refl
-T-true false t = absurd t
 
 pub allowed-not-wider : (most : ℕ) (s : LimitSet) → SetAllowed most s → wider most s ≡ false
 allowed-not-wider most s a =
@@ -49,7 +45,7 @@ module _ (widest most : ℕ) (b : List ℕ) where
   taken-not-wider e = allowed-not-wider most (setOf b) (accepted-allowed most b e)
 
   pub not-wider-taken : first (setRows widest b) ≡ passed → wider most (setOf b) ≡ false → first (setRows most b) ≡ passed
-  not-wider-taken e f = passed-rows most b (accepted-head widest b e) (not-wider-allowed widest most (setOf b) (accepted-allowed widest b e) f)
+  not-wider-taken e f = passed-rows most b (accepted-head widest b e) (not-wider-allowed widest most (setOf b) (accepted-allowed widest b e) f) (accepted-something widest b e)
 
   pub not-taken-wider : first (setRows widest b) ≡ passed → (first (setRows most b) ≡ passed → ⊥) → wider most (setOf b) ≡ true
   not-taken-wider e n = go (wider most (setOf b)) refl

@@ -1,5 +1,5 @@
 -- An answer's refusal is known from what it says, for each of the library's answers; which set a comparison refuses; and that the builder's rows say the same by every machine that stands for the canonical one. Assumes nothing.
-use mathlib.Core.Path.{_≡_, refl, sym, ap, _∙_}
+use mathlib.Core.Path.{_≡_, refl, sym, ap, _∙_, subst}
 use mathlib.Core.Logic.{_↔_}
 use mathlib.Core.List.{List, [], _∷_}
 use Prim.Native.Nat.{ℕ}
@@ -17,6 +17,7 @@ use Rattle.sets.specs.Bytes.{setOf}
 use Rattle.sets.specs.declared.SetAnswer.{SetAnswer}
 use Rattle.sets.specs.declared.SetAnswer.the-variants as read
 use Rattle.sets.specs.Read.{says as read-says}
+use Rattle.sets.proofs.Numbers.{SetNumber}
 use Rattle.verdict.specs.declared.Judgement.{Judgement}
 use Rattle.verdict.specs.declared.Judgement.the-variants as judge
 use Rattle.verdict.specs.Judge.{says as judge-says}
@@ -133,20 +134,18 @@ by-compared r {t} said which n v = (λ e. sym said ∙ ap compare-says e, λ e. 
     known compare.Between e = absurd (both-not-one e)
     known (compare.Refused k l u) e = cc
 
-pub one-of : (a b : List Row) → Numbers (from-to 1 7) a → Numbers (from-to 1 7) b → {which n v : ℕ} → in-turn (first a) (first b) ≡ one-refused which n v → from-to 1 2 which × from-to 1 7 n
+pub one-of : (a b : List Row) → Numbers SetNumber a → Numbers SetNumber b → {which n v : ℕ} → in-turn (first a) (first b) ≡ one-refused which n v → from-to 1 2 which × SetNumber n
 one-of a b all-a all-b {which} {n} {v} = go (first a) (first b) refl refl
   where
-    go : (s t : Tested) → first a ≡ s → first b ≡ t → in-turn s t ≡ one-refused which n v → from-to 1 2 which × from-to 1 7 n
+    go : (s t : Tested) → first a ≡ s → first b ≡ t → in-turn s t ≡ one-refused which n v → from-to 1 2 which × SetNumber n
     go (refused k u) t e f q =
         let z : 1 ≡ which = cc in
         let y : k ≡ n = cc in
-        let (l, h) = first-number (from-to 1 7) a k u all-a e in
-        ((omega arith, omega arith), (omega arith, omega arith))
+        ((omega arith, omega arith), subst SetNumber y (first-number SetNumber a k u all-a e))
     go passed (refused k u) e f q =
         let z : 2 ≡ which = cc in
         let y : k ≡ n = cc in
-        let (l, h) = first-number (from-to 1 7) b k u all-b f in
-        ((omega arith, omega arith), (omega arith, omega arith))
+        ((omega arith, omega arith), subst SetNumber y (first-number SetNumber b k u all-b f))
     go passed passed e f q = absurd (both-not-one q)
 
 -- what the builder's rows say doesn't depend on which machine stands for the canonical one

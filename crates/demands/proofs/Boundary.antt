@@ -24,14 +24,14 @@ use Rattle.sets.specs.Bytes.{setOf}
 use Rattle.sets.specs.Rows.{setRows}
 use Rattle.sets.specs.Read.{ReadAs}
 use Rattle.sets.specs.Write.{writeRows, WrittenAs}
-use Rattle.sets.proofs.Numbers.{set-numbers}
+use Rattle.sets.proofs.Numbers.{SetNumber, set-numbers, set-positive}
 use Rattle.verdict.specs.Judge.{patternRows, judgeRows, JudgedAs}
 use Rattle.compare.specs.Compare.{packed, BothTested, both-passed, one-refused, in-turn, ComparedAs}
 use Rattle.table.specs.Bytes.{sizeOf}
 use Rattle.table.specs.Rows.{tableRows, lookRows}
 use Rattle.table.specs.Check.{CheckedAs}
 use Rattle.builder.specs.Build.{earlyRows, buildRows, BuiltAs}
-use Rattle.builder.proofs.Numbers.{build-numbers}
+use Rattle.builder.proofs.Numbers.{BuildNumber, build-numbers, build-positive}
 use Rattle.guard.specs.declared.Guard.{Guard}
 use Rattle.guard.specs.declared.Started.{Started}
 use Rattle.guard.specs.declared.StartAnswer.the-variants as start
@@ -71,11 +71,11 @@ row-positive : (n : ℕ) → RowNumber n → 1 ≤ n
 row-positive n = ⊎-elim (λ e. omega arith) (λ h. at-least 10 12 n (omega arith) h)
 
 write-positive : (n : ℕ) → WriteNumber n → 1 ≤ n
-write-positive n = ⊎-elim (⊎-elim (λ e. omega arith) (λ h. at-least 5 7 n (omega arith) h)) (λ e. omega arith)
+write-positive n = ⊎-elim (⊎-elim (λ e. omega arith) (⊎-elim (λ (l, h). omega arith) (λ e. omega arith))) (λ e. omega arith)
 
 -- Demand 1.
-pub floe-read-set-refuses : (b : List ℕ) (f : FloeSetRead) → FlatAnswer (ReadAs longest b) flatSet f → RefusesFlat (from-to 1 7) (first (setRows longest b)) (f .refused) (f .at)
-floe-read-set-refuses b f (a, read, e) = rw e (opens-refuses (from-to 1 7) (setRows longest b) (λ n (l, h). l) (set-numbers longest b) (set-opens a) (read .answer))
+pub floe-read-set-refuses : (b : List ℕ) (f : FloeSetRead) → FlatAnswer (ReadAs longest b) flatSet f → RefusesFlat SetNumber (first (setRows longest b)) (f .refused) (f .at)
+floe-read-set-refuses b f (a, read, e) = rw e (opens-refuses SetNumber (setRows longest b) set-positive (set-numbers longest b) (set-opens a) (read .answer))
 
 pub floe-write-set-refuses : (s : LimitSet) (out out′ : List ℕ) (f : FloeWritten) → FlatAnswer (WrittenAs longest s out out′) flatWritten f → RefusesFlat WriteNumber (first (writeRows longest s out)) (f .refused) (f .at)
 floe-write-set-refuses s out out′ f (a, written, e) =
@@ -83,7 +83,7 @@ floe-write-set-refuses s out out′ f (a, written, e) =
 
 pub floe-judge-refuses : (b p : List ℕ) (f : FloeVerdict) → FlatAnswer (JudgedAs longest b p) flatVerdict f → RefusesFlat JudgeNumber (first (judgeRows longest b p)) (f .refused) (f .at)
 floe-judge-refuses b p f (a, judged, e) =
-    rw e (opens-refuses JudgeNumber (judgeRows longest b p) (λ n. ⊎-elim (λ (l, h). l) (⊎-elim (λ q. omega arith) (λ q. omega arith))) (judge-numbers longest b p) (verdict-opens a) (judged .refusal))
+    rw e (opens-refuses JudgeNumber (judgeRows longest b p) (λ n. ⊎-elim (set-positive n) (⊎-elim (λ q. omega arith) (λ q. omega arith))) (judge-numbers longest b p) (verdict-opens a) (judged .refusal))
 
 module _ (a b : List ℕ) (f : FloeComparison) (flat : FlatAnswer (ComparedAs longest a b) flatComparison f) where
   abbrev tests : BothTested
@@ -97,9 +97,9 @@ module _ (a b : List ℕ) (f : FloeComparison) (flat : FlatAnswer (ComparedAs lo
 
 pub floe-build-refuses : (set work work′ table table′ : List ℕ) (f : FloeBuilt) → FlatAnswer (BuiltAs longest set work work′ table table′) flatBuilt f
     → (m : Machine) → (first (earlyRows longest set work) ≡ passed → Canonical m (KeptBy (setOf set)))
-    → RefusesFlat (from-to 1 9) (first (buildRows longest set work table (sizeOf (m .states)))) (f .refused) (f .at)
+    → RefusesFlat BuildNumber (first (buildRows longest set work table (sizeOf (m .states)))) (f .refused) (f .at)
 floe-build-refuses set work work′ table table′ f (a, (n, built), e) m canonical =
-    rw e (opens-refuses (from-to 1 9) (buildRows longest set work table (sizeOf (m .states))) (λ k (l, h). l) (build-numbers longest set work table (sizeOf (m .states))) (built-opens a)
+    rw e (opens-refuses BuildNumber (buildRows longest set work table (sizeOf (m .states))) build-positive (build-numbers longest set work table (sizeOf (m .states))) (built-opens a)
     (built .answer ∙ one-size longest set work table n m (built .canonical) canonical))
 
 pub floe-check-table-refuses : (b : List ℕ) (f : FloeChecked) → FlatAnswer (CheckedAs b) flatChecked f → RefusesFlat (from-to 10 12) (first (tableRows b)) (f .refused) (f .at)

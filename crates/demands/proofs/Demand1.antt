@@ -21,7 +21,7 @@ use Rattle.sets.specs.declared.SetRead.{SetRead}
 use Rattle.sets.specs.declared.SetAnswer.the-variants as read
 use Rattle.sets.specs.Read.{ReadAs}
 use Rattle.sets.specs.Write.{writeRows, WrittenAs}
-use Rattle.sets.proofs.Numbers.{set-numbers}
+use Rattle.sets.proofs.Numbers.{SetNumber, set-numbers}
 use Rattle.verdict.specs.declared.Judgement.{Judgement}
 use Rattle.verdict.specs.declared.Judgement.the-variants as judge
 use Rattle.verdict.specs.Judge.{judgeRows, JudgedAs}
@@ -36,7 +36,7 @@ use Rattle.table.specs.Check.{CheckedAs}
 use Rattle.builder.specs.declared.BuildAnswer.{BuildAnswer}
 use Rattle.builder.specs.declared.BuildAnswer.the-variants as build
 use Rattle.builder.specs.Build.{earlyRows, buildRows, tableWhen, Cleared, BuiltAs}
-use Rattle.builder.proofs.Numbers.{early-numbers, build-numbers, work-by-number}
+use Rattle.builder.proofs.Numbers.{BuildNumber, early-numbers, build-numbers, work-by-number}
 use Rattle.guard.specs.declared.Guard.{Guard}
 use Rattle.guard.specs.declared.Started.{Started}
 use Rattle.guard.specs.declared.Asked.{Asked}
@@ -56,8 +56,8 @@ use Rattle.demands.proofs.Numbers.{WriteNumber, write-numbers, JudgeNum
 use Rattle.demands.proofs.Answers.{by-set, by-written, by-judged, by-compared, one-of, by-built, one-size, by-checked, by-started, by-asked, by-told}
 
 -- Reading a set, in either edition: `widest` is its longest window.
-pub read-refuses : (widest : ℕ) (b : List ℕ) (r : SetRead) → ReadAs widest b r → Refuses read.Refused (from-to 1 7) (first (setRows widest b)) (r .answer)
-read-refuses widest b r read = by-set (from-to 1 7) (setRows widest b) (r .answer) (set-numbers widest b) (read .answer)
+pub read-refuses : (widest : ℕ) (b : List ℕ) (r : SetRead) → ReadAs widest b r → Refuses read.Refused SetNumber (first (setRows widest b)) (r .answer)
+read-refuses widest b r read = by-set SetNumber (setRows widest b) (r .answer) (set-numbers widest b) (read .answer)
 
 -- Writing one.
 module _ (s : LimitSet) (out out′ : List ℕ) (r : WriteAnswer) (written : WrittenAs longest s out out′ r) where
@@ -76,15 +76,15 @@ module _ (a b : List ℕ) (r : Compared) (compared : ComparedAs longest a b r) w
   pub compare-refuses : (which n v : ℕ) → (r .answer ≡ compare.Refused which n v) ↔ (in-turn (first (setRows longest a)) (first (setRows longest b)) ≡ one-refused which n v)
   compare-refuses = by-compared (r .answer) (compared .refusal)
 
-  pub compare-refused-by : (which n v : ℕ) → r .answer ≡ compare.Refused which n v → from-to 1 2 which × from-to 1 7 n
+  pub compare-refused-by : (which n v : ℕ) → r .answer ≡ compare.Refused which n v → from-to 1 2 which × SetNumber n
   compare-refused-by which n v e = one-of (setRows longest a) (setRows longest b) (set-numbers longest a) (set-numbers longest b) (compare-refuses which n v .0 e)
 
 -- The builder, in either edition. The n of 7+4n is that of the canonical machine, whichever stands for it.
 module _ (widest : ℕ) (set work work′ table table′ : List ℕ) (r : BuildAnswer) (built : BuiltAs widest set work work′ table table′ r) where
   pub build-refuses : (m : Machine) → (first (earlyRows widest set work) ≡ passed → Canonical m (KeptBy (setOf set)))
-      → Refuses build.Refused (from-to 1 9) (first (buildRows widest set work table (sizeOf (m .states)))) r
+      → Refuses build.Refused BuildNumber (first (buildRows widest set work table (sizeOf (m .states)))) r
   build-refuses m canonical =
-      by-built (from-to 1 9) (buildRows widest set work table (sizeOf (m .states))) r (build-numbers widest set work table (sizeOf (m .states)))
+      by-built BuildNumber (buildRows widest set work table (sizeOf (m .states))) r (build-numbers widest set work table (sizeOf (m .states)))
       (built .1 .answer ∙ one-size widest set work table (built .0) m (built .1 .canonical) canonical)
 
   module _ (n v : ℕ) (e : r ≡ build.Refused n v) where
@@ -94,8 +94,8 @@ module _ (widest : ℕ) (set work work′ table table′ : List ℕ) (r : BuildA
     pub refused-build-leaves-table : table′ ≡ table
     refused-build-leaves-table = built .1 .table-after ∙ ap (λ t. tableWhen t (built .0) table) rows-refused
 
-    -- By 1 to 8 the work area is as it was, by 9 it is cleared.
-    pub refused-build-work : (n ≤ 8 → work′ ≡ work) × (n ≡ 9 → Cleared widest work work′)
+    -- By 9 the work area is cleared, by every other number it is as it was.
+    pub refused-build-work : ((n ≡ 9 → ⊥) → work′ ≡ work) × (n ≡ 9 → Cleared widest work work′)
     refused-build-work = work-by-number (earlyRows widest set work) table (sizeOf (built .0 .states)) (early-numbers widest set work) widest work work′ n v rows-refused (built .1 .work-after)
 
 -- The table check, and the guard's calls.

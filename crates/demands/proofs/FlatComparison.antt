@@ -8,7 +8,7 @@ use Rattle.layout.specs.Refusal.{first}
 use Rattle.meaning.specs.Longest.{longest}
 use Rattle.sets.specs.Bytes.{setOf}
 use Rattle.sets.specs.Rows.{setRows}
-use Rattle.sets.proofs.Numbers.{set-numbers}
+use Rattle.sets.proofs.Numbers.{set-numbers, set-positive}
 use Rattle.compare.specs.declared.CompareAnswer.{CompareAnswer}
 use Rattle.compare.specs.declared.CompareAnswer.the-variants as compare
 use Rattle.compare.specs.declared.Pattern.{Pattern}
@@ -35,8 +35,8 @@ module _ (a b : List ℕ) (f : FloeComparison) (flat : FlatAnswer (ComparedAs lo
       go compare.Covers e = (λ z. sym e, λ z. refl)
       go compare.Between e = (λ z. sym e, λ z. refl)
       go (compare.Refused w n v) e =
-          let (which, (low, high)) = one-of (setRows longest a) (setRows longest b) (set-numbers longest a) (set-numbers longest b) (sym e) in
-          (λ z. absurd (omega arith), λ z. let y : _≡_ {A = ℕ} 0 1 = cc in absurd (omega arith))
+          let (which, number) = one-of (setRows longest a) (setRows longest b) (set-numbers longest a) (set-numbers longest b) (sym e) in
+          (λ z. absurd (omega (arith, set-positive n number)), λ z. let y : _≡_ {A = ℕ} 0 1 = cc in absurd (omega arith))
 
   pub compared-opens : (which n v : ℕ) → 1 ≤ n → ((f .which ≡ which) × (f .refused ≡ n) × (f .at ≡ v)) ↔ (tests ≡ one-refused which n v)
   compared-opens which n v h = rw (flat .2) (go x said)

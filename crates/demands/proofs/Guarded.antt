@@ -7,6 +7,7 @@ use mathlib.Core.List.{List, [], _∷_, _++_, append-assoc, append-nil}
 use Prim.Native.Nat.{ℕ, zero, suc, _+_, _-_, _≤_, _<_}
 use native.Mathlib.Nat.{zero-add}
 use native.Mathlib.Numerals.{add-one}
+use native.Mathlib.Omega.{arith}
 use lib.ListN.{length, replicate, length-replicate, replicate-append-replicate}
 use Rattle.layout.specs.Refusal.{passed, first}
 use Rattle.patterns.specs.Outcome.{outcome}
@@ -31,7 +32,7 @@ use Rattle.guard.specs.declared.AskAnswer.the-variants as ask
 use Rattle.guard.specs.Guard.{mostTold, standing, fresh, AskedAs, latest}
 use Rattle.guard.specs.Told.{afterAll, toldAll, heard}
 use Rattle.guard.proofs.Latest.{latest-length, latest-whole}
-use Rattle.guard.proofs.Heard.{heard-none, heard-next, heard-hits}
+use Rattle.guard.proofs.Heard.{heard-none, heard-next, heard-same}
 use Rattle.guard.proofs.Walked.{count-all, told-walk, after-lost, lost-not-walked, told-then, Led}
 use Rattle.guard.proofs.InTable.{told-heard, told-all, never-leaves, answers-by-walk}
 use Rattle.demands.specs.TableOf.{TableOf}
@@ -168,7 +169,7 @@ module _ (set b : List ℕ) (t : TableOf set b) where
         let below : g .state < stateCount b = subst (λ z. z .state < stateCount b) (sym (after-told told)) (never-leaves b (made-checked set b t) p) in
         told-then b fresh told (replicate h 1)
         ∙ told-heard b (made-checked set b t) g (replicate h 1) below
-        ∙ ap (afterAll m g) (heard-hits (g .count) h room)
+        ∙ ap (afterAll m g) (heard-same 1 (omega arith) (g .count) h room)
         ∙ ap (λ z. afterAll m z hits) at
         ∙ told-walk m s 0 os (0 + length p) hits (sym (walk-after m 0 s p hits w) ∙ hits-lead-back p (not-lost-kept told e))
         ∙ ap₂ (standing 0) (latest-whole os hits many) (ap₂ (λ a c. a + c) (sym (ap (λ z. z .count) at)) (length-replicate h true))

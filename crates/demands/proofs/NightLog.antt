@@ -20,6 +20,7 @@ use Rattle.meaning.specs.Sets.{KeptBy}
 use Rattle.meaning.specs.Broken.{LostFrom}
 use Rattle.sets.specs.Bytes.{setOf}
 use Rattle.sets.specs.Rows.{setRows}
+use Rattle.sets.proofs.Numbers.{set-positive}
 use Rattle.verdict.specs.declared.Judgement.{Judgement}
 use Rattle.verdict.specs.declared.Judgement.the-variants as judge
 use Rattle.night_log.specs.declared.OpenAnswer.{OpenAnswer}
@@ -153,7 +154,7 @@ module _ (b : List ℕ) (place : ℕ) (f : FloeLogRead) (flat : FlatAnswer (Read
 
 pub floe-log-judge-refuses : (set b : List ℕ) (f : FloeVerdict) → FlatAnswer (LogJudgedAs longest set b) flatVerdict f → RefusesFlat LogJudgeNumber (first (logJudgeRows longest set b)) (f .refused) (f .at)
 floe-log-judge-refuses set b f (a, judged, e) =
-    rw e (opens-refuses LogJudgeNumber (logJudgeRows longest set b) (λ n. ⊎-elim (λ (l, h). l) (from-15 n)) (log-judge-numbers longest set b) (verdict-opens a) (judged .refusal))
+    rw e (opens-refuses LogJudgeNumber (logJudgeRows longest set b) (λ n. ⊎-elim (set-positive n) (from-15 n)) (log-judge-numbers longest set b) (verdict-opens a) (judged .refusal))
 
 module _ (set b : List ℕ) (f : FloeVerdict) (flat : FlatAnswer (LogJudgedAs longest set b) flatVerdict f) where
   pub floe-log-judge-kept : (f .kept ≡ 1) ↔ KeepsLog set b

@@ -14,7 +14,7 @@ use Rattle.meaning.specs.declared.LimitSet.{LimitSet}
 use Rattle.sets.specs.Bytes.{setOf}
 use Rattle.sets.specs.Rows.{setRows, memoryRows}
 use Rattle.sets.specs.Write.{sizeOf, writeRows}
-use Rattle.sets.proofs.Numbers.{set-numbers, MemoryNumber, memory-numbers}
+use Rattle.sets.proofs.Numbers.{SetNumber, set-numbers, set-positive, MemoryNumber, memory-numbers}
 use Rattle.verdict.specs.Judge.{patternRows, judgeRows}
 use Rattle.night_log.specs.Bytes.{sizeOf as logSize}
 use Rattle.night_log.specs.Rows.{logRows, writeRows as logWriteRows}
@@ -27,7 +27,7 @@ use Rattle.guard.specs.Row.{guardAt, rowStartRows, rowAskRows, rowTellRows}
 use Rattle.carry.specs.Bytes.{sizeOf as recordSize, setIn, outcomeBytes, lostByte}
 use Rattle.carry.specs.Rows.{writeRows as recordWriteRows, wider, versionRows, ledTo, leadsNowhere, readRows}
 
--- writing a set: 3, 5, 6, 7, 9
+-- writing a set: 3, 5, 6, 7, 21, 9
 abbrev pub WriteNumber : ℕ → Type 0
 WriteNumber n = MemoryNumber n ⊎ (n ≡ 9)
 
@@ -36,9 +36,9 @@ write-numbers w s out =
     numbers-append WriteNumber (memoryRows w s) (roomRow out (sizeOf s) ∷ [])
     (numbers-among MemoryNumber WriteNumber (λ n h. inl h) (memoryRows w s) (memory-numbers w s)) (inr refl, tt)
 
--- the verdict: 1 to 7, 26, 13
+-- the verdict: 1 to 7, 21, 26, 13
 abbrev pub JudgeNumber : ℕ → Type 0
-JudgeNumber n = from-to 1 7 n ⊎ ((n ≡ 26) ⊎ (n ≡ 13))
+JudgeNumber n = SetNumber n ⊎ ((n ≡ 26) ⊎ (n ≡ 13))
 
 outcome-numbers : (p : List ℕ) (i : ℕ) → Numbers (λ n. n ≡ 13) (outcomeRows p i)
 unfolding outcomeRows
@@ -48,10 +48,10 @@ outcome-numbers (b ∷ p) i = (refl, outcome-numbers p (suc i))
 pub judge-numbers : (w : ℕ) (b p : List ℕ) → Numbers JudgeNumber (judgeRows w b p)
 judge-numbers w b p =
     numbers-append JudgeNumber (setRows w b) (patternRows p)
-    (numbers-among (from-to 1 7) JudgeNumber (λ n h. inl h) (setRows w b) (set-numbers w b))
+    (numbers-among SetNumber JudgeNumber (λ n h. inl h) (setRows w b) (set-numbers w b))
     (inr (inl refl), numbers-among (λ n. n ≡ 13) JudgeNumber (λ n h. inr (inr h)) (outcomeRows p 0) (outcome-numbers p 0))
 
--- a night log: 15 and 16; writing one: 9, 13, 15; judging one: 1 to 7, 15, 16
+-- a night log: 15 and 16; writing one: 9, 13, 15; judging one: 1 to 7, 21, 15, 16
 pub log-numbers : (b : List ℕ) → Numbers (from-to 15 16) (logRows b)
 log-numbers b = ((omega arith, omega arith), ((omega arith, omega arith), ((omega arith, omega arith), ((omega arith, omega arith), tt))))
 
@@ -66,12 +66,12 @@ log-write-numbers p out = (
 )
 
 abbrev pub LogJudgeNumber : ℕ → Type 0
-LogJudgeNumber n = from-to 1 7 n ⊎ from-to 15 16 n
+LogJudgeNumber n = SetNumber n ⊎ from-to 15 16 n
 
 pub log-judge-numbers : (w : ℕ) (set log : List ℕ) → Numbers LogJudgeNumber (logJudgeRows w set log)
 log-judge-numbers w set log =
     numbers-append LogJudgeNumber (setRows w set) (logRows log)
-    (numbers-among (from-to 1 7) LogJudgeNumber (λ n h. inl h) (setRows w set) (set-numbers w set))
+    (numbers-among SetNumber LogJudgeNumber (λ n h. inl h) (setRows w set) (set-numbers w set))
     (numbers-among (from-to 15 16) LogJudgeNumber (λ n h. inr h) (logRows log) (log-numbers log))
 
 -- a table, and one of its states
@@ -125,20 +125,20 @@ module _ (r : List Guard) (job : ℕ) (b : List ℕ) where
 pub row-tell-positive : (n : ℕ) → RowTellNumber n → 1 ≤ n
 row-tell-positive n = ⊎-elim (λ (l, h). omega arith) (λ e. omega arith)
 
--- a carry-over record: writing 1 to 7 and 9, reading back 18, 1 to 7, 20, 13, 19, 10 to 12, 25
+-- a carry-over record: writing 1 to 7, 21 and 9, reading back 18, 1 to 7, 21, 20, 13, 19, 10 to 12, 25
 abbrev pub CarryWriteNumber : ℕ → Type 0
-CarryWriteNumber n = from-to 1 7 n ⊎ (n ≡ 9)
+CarryWriteNumber n = SetNumber n ⊎ (n ≡ 9)
 
 pub carry-write-numbers : (w h : ℕ) (set out : List ℕ) → Numbers CarryWriteNumber (recordWriteRows w h set out)
 carry-write-numbers w h set out =
     numbers-append CarryWriteNumber (setRows w set) (roomRow out (recordSize h set) ∷ [])
-    (numbers-among (from-to 1 7) CarryWriteNumber (λ n l. inl l) (setRows w set) (set-numbers w set)) (inr refl, tt)
+    (numbers-among SetNumber CarryWriteNumber (λ n l. inl l) (setRows w set) (set-numbers w set)) (inr refl, tt)
 
 pub carry-write-positive : (n : ℕ) → CarryWriteNumber n → 1 ≤ n
-carry-write-positive n = ⊎-elim (λ (l, h). omega arith) (λ e. omega arith)
+carry-write-positive n = ⊎-elim (set-positive n) (λ e. omega arith)
 
 abbrev pub CarryReadNumber : ℕ → Type 0
-CarryReadNumber n = from-to 1 7 n ⊎ (from-to 10 13 n ⊎ (from-to 18 20 n ⊎ (n ≡ 25)))
+CarryReadNumber n = SetNumber n ⊎ (from-to 10 13 n ⊎ (from-to 18 20 n ⊎ (n ≡ 25)))
 
 module _ (w many v h : ℕ) (r b : List ℕ) where
   among : (Q : ℕ → Type 0) → ((n : ℕ) → Q n → CarryReadNumber n) → (rows : List Row) → Numbers Q rows → Numbers CarryReadNumber rows
@@ -168,7 +168,7 @@ module _ (w many v h : ℕ) (r b : List ℕ) where
     (
       by-18-20 18 (omega arith, omega arith),
       numbers-append CarryReadNumber (setRows w (setIn h r)) (widthRow ∷ (outcomeRows (outcomeBytes h r) 0 ++ lostRow))
-          (among (from-to 1 7) (λ n l. inl l) (setRows w (setIn h r)) (set-numbers w (setIn h r))) (by-18-20 20 (omega arith, omega arith), outcomes-numbers),
+          (among SetNumber (λ n l. inl l) (setRows w (setIn h r)) (set-numbers w (setIn h r))) (by-18-20 20 (omega arith, omega arith), outcomes-numbers),
     ),
   )
 
@@ -179,4 +179,4 @@ module _ (w many v h : ℕ) (r b : List ℕ) where
       (among (from-to 10 12) (λ n (l, g). by-10-13 n (omega arith, omega arith)) (tableRows b) (table-numbers b)) (inr (inr (inr refl)), tt))
 
 pub carry-read-positive : (n : ℕ) → CarryReadNumber n → 1 ≤ n
-carry-read-positive n = ⊎-elim (λ (l, h). omega arith) (⊎-elim (λ (l, h). omega arith) (⊎-elim (λ (l, h). omega arith) (λ e. omega arith)))
+carry-read-positive n = ⊎-elim (set-positive n) (⊎-elim (λ (l, h). omega arith) (⊎-elim (λ (l, h). omega arith) (λ e. omega arith)))

@@ -13,7 +13,7 @@ use Rattle.meaning.specs.Sets.{SetAllowed, KeptBy}
 use Rattle.meaning.proofs.Widths.{set-wider}
 use Rattle.sets.specs.Bytes.{setOf}
 use Rattle.sets.specs.Rows.{setRows}
-use Rattle.sets.proofs.Accepted.{accepted-head, passed-rows}
+use Rattle.sets.proofs.Accepted.{accepted-head, accepted-something, passed-rows}
 use Rattle.table.specs.Bytes.{machineOf, bytesOf}
 use Rattle.table.specs.Rows.{tableRows}
 use Rattle.table.proofs.Checked.{checked-well-made}
@@ -30,7 +30,7 @@ module _ (set b : List ℕ) (t : TableOf set b) where
   pub made-accepted : first (setRows longest set) ≡ passed
   made-accepted =
       let e = built-accepted (t .widest) set (t .work) (t .work′) (t .table) (t .table′) (t .size) (t .built) in
-      passed-rows longest set (accepted-head (t .widest) set e) made-allowed
+      passed-rows longest set (accepted-head (t .widest) set e) made-allowed (accepted-something (t .widest) set e)
 
   pub made-canonical : Canonical canonical-machine (KeptBy (setOf set))
   made-canonical = built-canonical (t .widest) set (t .work) (t .work′) (t .table) (t .table′) (t .size) (t .built)

@@ -1,4 +1,4 @@
--- All rows of RULES, Patterns to try that are marked proved, as one list under one claim: those on patterns come from `meaning`, and the tables are shown here, by carrying the limit's histories to the states of its table. The checker computes the tests. Assumes nothing.
+-- All rows of RULES, Patterns to try that are marked proved, as one list under one claim: those on patterns come from `meaning`; the tables are shown here, by carrying the limit's histories to the states of its table, and the refusal by what the set keeps. The checker computes the tests. Assumes nothing.
 use mathlib.Core.Path.{_≡_, refl, subst}
 use mathlib.Core.Option.{some, Option·none-ne-some}
 use mathlib.Core.Bool.{Bool, true, false}
@@ -7,31 +7,39 @@ use Prim.Native.Nat.{ℕ, zero, suc, _%_, _≤_, _<_}
 use native.Mathlib.Omega.{arith}
 use lib.Dec.{T}
 use lib.ListN.{getD, replicate}
-use Rattle.layout.specs.Refusal.{first}
+use Rattle.layout.specs.Refusal.{refused, first}
 use Rattle.machines.specs.Machine.{Machine, Walks}
 use Rattle.machines.specs.Canonical.{Canonical}
 use Rattle.machines.specs.Numbering.{place, FirstSeen, NumberedAtSight}
 use Rattle.meaning.specs.declared.LimitSet.{LimitSet}
+use Rattle.meaning.specs.Longest.{longest}
 use Rattle.meaning.specs.Limit.{ruleFrom, RuleAllowed, Allowed}
 use Rattle.meaning.specs.Sets.{limitAt, SetAllowed, KeptBy}
 use Rattle.meaning.proofs.WorkedRows as meaning
 use Rattle.meaning.proofs.WorkedRows.{alone, any-hit, row-hit, any-miss}
+use Rattle.meaning.proofs.Nothing.{nothing-iff}
 use Rattle.history.specs.History.{newest}
 use Rattle.history.specs.MayMiss.{mayMiss}
 use Rattle.history.specs.Machine.{historyMachine}
+use Rattle.sets.specs.Bytes.{setOf, limitsIn}
+use Rattle.sets.specs.Rows.{limitsRows, setRows}
+use Rattle.sets.proofs.Numbers.{nothing-refused}
 use Rattle.table.specs.Bytes.{machineOf, rowBytes, bytesOf}
 use Rattle.table.specs.Rows.{entriesRows}
 use Rattle.table.proofs.Checked.{checked-well-made}
+use Rattle.printing.specs.Longest.{printedLongest}
 use Rattle.demands.proofs.SmallMachines.{canonical-for-its-walks, one-state-canonical, test-differ, carriesTest, canonical-for-kept}
 
--- a row on patterns, or a set and the bytes of its table
+-- a row on patterns, a set and the bytes of its table, or the bytes of a set that both editions refuse
 pub data Claim : Type 0 where
   pattern : meaning.Row → Claim
   table : LimitSet → List ℕ → Claim
+  refuses : List ℕ → (number at : ℕ) → Claim
 
 abbrev pub Holds : Claim → Type 0
 Holds (pattern r) = meaning.Holds r
 Holds (table s b) = Canonical (machineOf b) (KeptBy s) × (bytesOf (machineOf b) ≡ b)
+Holds (refuses b number at) = (first (setRows longest b) ≡ refused number at) × (first (setRows printedLongest b) ≡ refused number at)
 
 abbrev pub All : List Claim → Type 0
 All [] = Unit {0}
@@ -45,8 +53,9 @@ after-two-hits =
     0x00 ∷ 0x00 ∷ 0x00 ∷ 0x0F ∷ 0x01 ∷ 0x00 ∷ 0x03 ∷ 0x00 ∷ 0x01 ∷ 0x00 ∷ 0x00
     ∷ 0xFF ∷ 0xFF ∷ 0x00 ∷ 0x02 ∷ 0xFF ∷ 0xFF ∷ 0x00 ∷ 0x00 ∷ []
 
-abbrev always : List ℕ
-always = 0x00 ∷ 0x00 ∷ 0x00 ∷ 0x07 ∷ 0x01 ∷ 0x00 ∷ 0x01 ∷ 0x00 ∷ 0x00 ∷ 0x00 ∷ 0x00 ∷ []
+-- AnyMiss(12,12)
+abbrev any-of-twelve : List ℕ
+any-of-twelve = 0x00 ∷ 0x00 ∷ 0x00 ∷ 0x05 ∷ 0x01 ∷ 0x01 ∷ 0x02 ∷ 0x0C ∷ 0x0C ∷ []
 
 abbrev pub tables : List Claim
 tables =
@@ -55,11 +64,10 @@ tables =
     ∷ table (row-hit 2 4) after-two-hits
     ∷ table (any-miss 1 3) after-two-hits
     ∷ table (any-hit 2 3) after-two-hits
-    ∷ table (any-miss 12 12) always
     ∷ []
 
 abbrev pub rows : List Claim
-rows = map pattern meaning.rows ++ tables
+rows = map pattern meaning.rows ++ (tables ++ refuses any-of-twelve 21 0 ∷ [])
 
 rule-allowed : (kind x m : ℕ) → kind ≤ 2 → x ≤ suc m → RuleAllowed (suc m) (ruleFrom kind x (suc m))
 rule-allowed zero x m h l = (omega arith, omega arith, omega arith)
@@ -114,10 +122,6 @@ after-two-hits-canonical =
     canonical-for-its-walks m (checked-well-made after-two-hits refl) after-two-hits-numbered
     (test-differ m (λ a. replicate a true ++ false ∷ []) tt)
 
-always-canonical : Canonical (machineOf always) (Walks (machineOf always))
-unfolding first entriesRows
-always-canonical = one-state-canonical (machineOf always) (checked-well-made always refl) refl refl
-
 -- the states of `after-two-hits`, by the two newest outcomes
 abbrev newest-miss : ℕ → ℕ
 newest-miss h = getD (1 ∷ 2 ∷ 1 ∷ 0 ∷ []) (h % 4) 0
@@ -134,12 +138,17 @@ tables-hold =
     let c = table-holds 1 2 3 after-two-hits newest-miss (omega arith) (omega arith) after-two-hits-canonical refl tt in
     let d = table-holds 2 1 2 after-two-hits newest-miss (omega arith) (omega arith) after-two-hits-canonical refl tt in
     let e = table-holds 0 2 2 after-two-hits newest-miss (omega arith) (omega arith) after-two-hits-canonical refl tt in
-    let f = table-holds 2 12 11 always (λ h. 0) (omega arith) (omega arith) always-canonical refl tt in
-    (a, (b, (c, (d, (e, (f, tt))))))
+    (a, (b, (c, (d, (e, tt)))))
+
+refusal-holds : Holds (refuses any-of-twelve 21 0)
+unfolding first limitsRows limitsIn
+refusal-holds =
+    let n = nothing-iff (setOf any-of-twelve) .0 tt in
+    (nothing-refused longest any-of-twelve .1 (refl, n), nothing-refused printedLongest any-of-twelve .1 (refl, n))
 
 all-both : (a b : List Claim) → All a → All b → All (a ++ b)
 all-both [] b s t = t
 all-both (c ∷ a) b (h, s) t = (h, all-both a b s t)
 
 pub p-rows-hold : All rows
-p-rows-hold = all-both (map pattern meaning.rows) tables meaning.rows-hold tables-hold
+p-rows-hold = all-both (map pattern meaning.rows) (tables ++ refuses any-of-twelve 21 0 ∷ []) meaning.rows-hold (all-both tables (refuses any-of-twelve 21 0 ∷ []) tables-hold (refusal-holds, tt))

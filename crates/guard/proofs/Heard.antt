@@ -1,7 +1,6 @@
 -- The outcomes told by bytes: what one byte adds, before others and after them. Assumes nothing.
 use mathlib.Core.Path.{_≡_, sym, ap, _∙_}
 use mathlib.Core.Logic.{_⊎_, ⊎-elim, inl, inr, dite}
-use mathlib.Core.Bool.{true}
 use mathlib.Core.List.{List, [], _∷_, _++_}
 use Prim.Native.Nat.{ℕ, zero, suc, _+_, _-_, _≤_, _<_}
 use native.Mathlib.Decide.{decLt}
@@ -53,7 +52,7 @@ heard-next n (x ∷ a) byte =
     (⊎-elim (λ e. inl (ap (λ z. outcome x ∷ z) e)) (λ e. inr (ap (λ z. outcome x ∷ z) e)) (heard-next (n + 1) a byte)))
     (λ h. inl (heard-full n (x ∷ (a ++ byte ∷ [])) (omega arith) ∙ sym (heard-full n (x ∷ a) (omega arith)))))
 
--- hits, where the count has room for them
-pub heard-hits : (n k : ℕ) → n + k ≤ mostTold → heardAfter n (replicate k 1) ≡ replicate k true
-heard-hits n zero h = heard-none n
-heard-hits n (suc k) h = heard-one n 1 (replicate k 1) (omega arith) (omega arith) ∙ ap (λ l. true ∷ l) (heard-hits (n + 1) k (omega arith))
+-- one outcome again and again, where the count has room
+pub heard-same : (byte : ℕ) → byte ≤ 1 → (n k : ℕ) → n + k ≤ mostTold → heardAfter n (replicate k byte) ≡ replicate k (outcome byte)
+heard-same byte l n zero h = heard-none n
+heard-same byte l n (suc k) h = heard-one n byte (replicate k byte) l (omega arith) ∙ ap (λ z. outcome byte ∷ z) (heard-same byte l (n + 1) k (omega arith))

@@ -6,6 +6,7 @@ pub mod MissMore
 pub mod Decide
 pub mod SetLaws
 pub mod Search
+pub mod Nothing
 pub mod Unique
 pub mod Earliest
 pub mod Widths

@@ -12,7 +12,7 @@ use Rattle.meaning.specs.Window.{around, window}
 use Rattle.meaning.specs.Holds.{hits, misses, Holds}
 use Rattle.meaning.specs.Kept.{Kept}
 
-hits-misses : (w : List Bool) → hits w + misses w ≡ length w
+pub hits-misses : (w : List Bool) → hits w + misses w ≡ length w
 hits-misses [] = omega arith
 hits-misses (true ∷ w) = let h = hits-misses w in omega arith
 hits-misses (false ∷ w) = let h = hits-misses w in omega arith
@@ -30,7 +30,7 @@ no-hits [] e = refl
 no-hits (true ∷ w) e = absurd (omega arith)
 no-hits (false ∷ w) e = ap {B = List Bool} (λ z. false ∷ z) (no-hits w e)
 
-hits-of-misses : (n : ℕ) → hits (replicate n false) ≡ zero
+pub hits-of-misses : (n : ℕ) → hits (replicate n false) ≡ zero
 hits-of-misses zero = refl
 hits-of-misses (suc n) = hits-of-misses n
 

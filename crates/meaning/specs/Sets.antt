@@ -28,6 +28,10 @@ pub record SetAllowed (widest : ℕ) (s : LimitSet) : Type 0 where
 abbrev pub KeptBy : LimitSet → List Bool → Type 0
 KeptBy s p = (i : ℕ) → i < s .count → Kept (ruleAt s i) p
 
+-- RULES, Kept: "A set limits nothing when it keeps every pattern."
+abbrev pub LimitsNothing : LimitSet → Type 0
+LimitsNothing s = (p : List Bool) → KeptBy s p
+
 -- RULES, Lost: "A pattern that isn't kept is lost at job j. Of its beginnings that aren't kept the shortest has j jobs, so j counts from 1. Beside j stands a limit: among those that don't keep this beginning, the one with the lowest number, from 0."
 pub record LostAt (s : LimitSet) (p : List Bool) (j i : ℕ) : Type 0 where
   pub lost : KeptBy s (take j p) → ⊥

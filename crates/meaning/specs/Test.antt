@@ -1,8 +1,8 @@
--- RULES, Kept, as a test that is computed. proofs/Decide.antt shows that it agrees with the definition.
+-- RULES, Kept, as tests that are computed: whether a pattern is kept, and whether every pattern is. proofs/Decide.antt and proofs/Nothing.antt show that they agree with the definitions.
 use mathlib.Core.Bool.{Bool, true, false, _&&_, _||_}
 use mathlib.Core.List.{List, [], _∷_}
 use Prim.Native.Nat.{ℕ, zero, suc, _+_}
-use lib.Dec.{leb}
+use lib.Dec.{eqb, leb}
 use lib.ListN.{length}
 use lib.IntN.{pos, _-ℤ_}
 use Rattle.meaning.specs.declared.LimitSet.{LimitSet}
@@ -43,3 +43,13 @@ keptTest l p = every (suc (width l + length p)) (windowTest l p)
 
 abbrev pub keptByTest : LimitSet → List Bool → Bool
 keptByTest s p = every (s .count) (λ i. keptTest (ruleAt s i) p)
+
+-- the limit holds in every window, whatever its outcomes (allowed numbers have x ≤ k, so k ≤ x says x = k)
+abbrev pub idle : Rule → Bool
+idle (AnyHit x k) = eqb x 0
+idle (RowHit x k) = eqb x 0
+idle (AnyMiss x k) = leb k x
+idle (RowMiss x) = false
+
+abbrev pub allIdle : LimitSet → Bool
+allIdle s = every (s .count) (λ i. idle (ruleAt s i))

@@ -1,20 +1,20 @@
--- Demand 1 for the printing: a refusal's line is printed exactly by the first row that holds, by 1 to 9 alone. A refusal leaves the table, and the work area as it was or, by 9, cleared. Assumes nothing.
+-- Demand 1 for the printing: a refusal's line is printed exactly by the first row that holds, by 1 to 9 and 21 alone. A refusal leaves the table, and the work area as it was or, by 9, cleared. Assumes nothing.
 use mathlib.Core.Path.{_≡_, sym, ap, _∙_}
-use mathlib.Core.Logic.{_↔_}
+use mathlib.Core.Logic.{_↔_, inl}
 use mathlib.Core.List.{List, [], _∷_, _++_}
 use Prim.Native.Nat.{ℕ, _≤_}
 use native.Mathlib.Omega.{arith}
 use lib.ListN.{length, take}
 use Rattle.layout.specs.Refusal.{Row, passed, refused, first}
 use Rattle.layout.specs.Write.{roomRow}
-use Rattle.layout.proofs.Rows.{Numbers, from-to, first-number}
+use Rattle.layout.proofs.Rows.{Numbers, first-number}
 use Rattle.machines.specs.Machine.{Machine}
 use Rattle.machines.specs.Canonical.{Canonical}
 use Rattle.meaning.specs.Sets.{KeptBy}
 use Rattle.sets.specs.Bytes.{setOf}
 use Rattle.table.specs.Bytes.{sizeOf}
 use Rattle.builder.specs.Build.{earlyRows, buildRows, Cleared, tableWhen}
-use Rattle.builder.proofs.Numbers.{early-numbers, room-numbers, work-by-number}
+use Rattle.builder.proofs.Numbers.{EarlyNumber, BuildNumber, early-numbers, room-numbers, work-by-number}
 use Rattle.printing.specs.Longest.{printedLongest}
 use Rattle.printing.specs.Text.{refusalText}
 use Rattle.printing.specs.Print.{longestText, inputRow, printEarly, printTests, PrintedAs}
@@ -22,8 +22,8 @@ use Rattle.printing.proofs.OneResult.{tests-once}
 use Rattle.printing.proofs.ReadBack.{text-refuses}
 use Rattle.printing.proofs.Whole.{whole-text}
 
-early-numbered : (input work : List ℕ) → Numbers (from-to 1 8) (inputRow input ∷ earlyRows printedLongest input work)
-early-numbered input work = ((omega arith, omega arith), early-numbers printedLongest input work)
+early-numbered : (input work : List ℕ) → Numbers EarlyNumber (inputRow input ∷ earlyRows printedLongest input work)
+early-numbered input work = (inl (omega arith, omega arith), early-numbers printedLongest input work)
 
 module _ (input work work′ table table′ out out′ : List ℕ) (r : ℕ) (printed : PrintedAs printedLongest input work work′ table table′ out out′ r) (room : longestText ≤ length out) where
   -- for any machine that is the canonical one of the set where the tests get past 8
@@ -46,11 +46,11 @@ module _ (input work work′ table table′ out out′ : List ℕ) (r : ℕ) (pr
     abbrev late : List Row
     late = roomRow table (sizeOf (printed .0 .states)) ∷ []
 
-    pub print-refused-by : from-to 1 9 n
-    print-refused-by = first-number (from-to 1 9) (early ++ late) n v (room-numbers early table (sizeOf (printed .0 .states)) (early-numbered input work)) rows-refused
+    pub print-refused-by : BuildNumber n
+    print-refused-by = first-number BuildNumber (early ++ late) n v (room-numbers early table (sizeOf (printed .0 .states)) (early-numbered input work)) rows-refused
 
     pub refused-print-leaves-table : table′ ≡ table
     refused-print-leaves-table = printed .1 .table-after ∙ ap (λ z. tableWhen z (printed .0) table) rows-refused
 
-    pub refused-print-leaves-work : (n ≤ 8 → work′ ≡ work) × (n ≡ 9 → Cleared printedLongest work work′)
+    pub refused-print-leaves-work : ((n ≡ 9 → ⊥) → work′ ≡ work) × (n ≡ 9 → Cleared printedLongest work work′)
     refused-print-leaves-work = work-by-number early table (sizeOf (printed .0 .states)) (early-numbered input work) printedLongest work work′ n v rows-refused (printed .1 .work-after)

@@ -16,7 +16,7 @@ use Rattle.layout.proofs.Rows.{and-then, first-append, passed-first, both-passe
 use Rattle.machines.specs.Machine.{Machine, WellMade}
 use Rattle.meaning.specs.declared.LimitSet.{LimitSet}
 use Rattle.sets.specs.Bytes.{countOf, setOf}
-use Rattle.sets.specs.Rows.{limitsRows, headRows, setRows}
+use Rattle.sets.specs.Rows.{limitsRows, nothingRow, testRows, headRows, setRows}
 use Rattle.sets.proofs.Accepted.{passed-head, accepted-allowed}
 use Rattle.table.specs.Bytes.{sizeOf}
 use Rattle.builder.specs.Build.{areaRow, earlyRows}
@@ -109,9 +109,12 @@ small-limits s i (suc n) h = (omega arith, omega arith, (omega arith, omega arit
 
 small-set : (b : List ℕ) → Small (first (setRows printedLongest b))
 small-set b =
-    small-then (headRows b) (limitsRows printedLongest (setOf b) 0 (countOf b))
+    let limits = limitsRows printedLongest (setOf b) 0 (countOf b) in
+    small-then (headRows b) (testRows printedLongest (setOf b))
     (small-first (headRows b) (omega arith, omega arith, (omega arith, omega arith, (omega arith, omega arith, (omega arith, omega arith, tt)))))
-    (λ e. small-first _ (small-limits (setOf b) 0 (countOf b) (omega (arith, passed-head b e .eight))))
+    (λ e. small-then limits (nothingRow (setOf b) ∷ [])
+    (small-first limits (small-limits (setOf b) 0 (countOf b) (omega (arith, passed-head b e .eight))))
+    (λ f. small-first (nothingRow (setOf b) ∷ []) (omega arith, omega arith, tt)))
 
 module _ (input work work′ table table′ out out′ : List ℕ) (r : ℕ) (m : Machine) (p : PrintedWith printedLongest input work work′ table table′ out out′ r m) where
   pub early-few : printEarly printedLongest input work ≡ passed → m .states ≤ printedStates

@@ -1,8 +1,8 @@
 -- What bytes, a set and a limit hold where all their rows are passed, and that the rows are passed where they hold it: each row is read as the test on numbers that it is. Assumes nothing.
-use mathlib.Core.Path.{_≡_, refl, ap₂, _∙_, subst}
-use mathlib.Core.Logic.{dite}
-use mathlib.Core.Bool.{false, _||_}
-use mathlib.Core.List.{List}
+use mathlib.Core.Path.{_≡_, refl, sym, ap₂, _∙_, subst}
+use mathlib.Core.Logic.{dite, ite, if-pos, if-neg}
+use mathlib.Core.Bool.{true, false, _||_, true≢false}
+use mathlib.Core.List.{List, [], _∷_}
 use Prim.Native.Nat.{ℕ, zero, suc, _+_, _-_, _*_, _≤_, _<_}
 use native.Mathlib.Decide.{ℕ-discrete}
 use native.Mathlib.Omega.{arith}
@@ -13,13 +13,14 @@ use Rattle.layout.specs.Bytes.{lengthField, version}
 use Rattle.layout.specs.Refusal.{passed, first}
 use Rattle.layout.specs.Head.{headRows as openingRows}
 use Rattle.layout.proofs.Head.{head-passed as head-says}
-use Rattle.layout.proofs.Rows.{and-then, passed-first, first-append, both-passed, or-none}
+use Rattle.layout.proofs.Rows.{and-then, first-skip, passed-first, first-append, both-passed, passed-before, or-none}
 use Rattle.meaning.specs.declared.Limit.{Limit}
 use Rattle.meaning.specs.declared.LimitSet.{LimitSet}
 use Rattle.meaning.specs.Limit.{Allowed}
-use Rattle.meaning.specs.Sets.{limitAt, SetAllowed}
+use Rattle.meaning.specs.Sets.{limitAt, SetAllowed, LimitsNothing}
+use Rattle.meaning.proofs.Nothing.{nothing-dec}
 use Rattle.sets.specs.Bytes.{countOf, setOf}
-use Rattle.sets.specs.Rows.{kOutside, xOutside, limitRows, limitsRows, headRows, setRows, memoryRows}
+use Rattle.sets.specs.Rows.{kOutside, xOutside, limitRows, limitsRows, limitsNothing, nothingRow, testRows, headRows, setRows, memoryRows}
 
 -- from 1 to w: a count, the k of kinds 0, 1 and 2, the x of kind 3
 within : (w n : ℕ) → (eqb n 0 || ltb w n) ≡ false → (1 ≤ n) × (n ≤ w)
@@ -81,14 +82,24 @@ module _ (w : ℕ) (s : LimitSet) where
       first-append (limitRows w (limitAt s i) i) (limitsRows w s (suc i) n)
       ∙ ap₂ and-then (allowed-limit w (limitAt s i) i (a i (omega arith) (omega arith))) (each-limits (suc i) n (λ j l h. a j (omega arith) (omega arith)))
 
-allowed-of : (w : ℕ) (s : LimitSet) → (1 ≤ s .count) × (s .count ≤ 8) → first (limitsRows w s 0 (s .count)) ≡ passed → SetAllowed w s
-allowed-of w s (a, b) e = record { some-limit = a; eight-places = b; each = λ i h. limits-each w s 0 (s .count) e i (omega arith) (omega arith) }
+module _ (w : ℕ) (s : LimitSet) where
+  passed-both : first (testRows w s) ≡ passed → (first (limitsRows w s 0 (s .count)) ≡ passed) × (first (nothingRow s ∷ []) ≡ passed)
+  passed-both = both-passed (limitsRows w s 0 (s .count)) (nothingRow s ∷ [])
 
-pub memory-allowed : (w : ℕ) (s : LimitSet) → first (memoryRows w s) ≡ passed → SetAllowed w s
-memory-allowed w s e = let (a, b) = passed-first _ _ e in allowed-of w s (within 8 (s .count) a) b
+  allowed-of : (1 ≤ s .count) × (s .count ≤ 8) → first (testRows w s) ≡ passed → SetAllowed w s
+  allowed-of (a, b) e = record { some-limit = a; eight-places = b; each = λ i h. limits-each w s 0 (s .count) (passed-both e .0) i (omega arith) (omega arith) }
 
-allowed-limits : (w : ℕ) (s : LimitSet) → SetAllowed w s → first (limitsRows w s 0 (s .count)) ≡ passed
-allowed-limits w s a = each-limits w s 0 (s .count) (λ j l h. a .each j (omega arith))
+  something-of : first (testRows w s) ≡ passed → (LimitsNothing s → ⊥)
+  something-of e n = true≢false (sym (if-pos (nothing-dec s) n true false) ∙ passed-first (nothingRow s) [] (passed-both e .1) .0)
+
+  passed-tests : SetAllowed w s → (LimitsNothing s → ⊥) → first (testRows w s) ≡ passed
+  unfolding first
+  passed-tests a f =
+      passed-before (limitsRows w s 0 (s .count)) (nothingRow s ∷ []) (each-limits w s 0 (s .count) (λ j l h. a .each j (omega arith)))
+      ∙ first-skip 21 0 (limitsNothing s) [] (if-neg (nothing-dec s) f true false)
+
+  pub memory-allowed : first (memoryRows w s) ≡ passed → SetAllowed w s
+  memory-allowed e = let (a, b) = passed-first _ _ e in allowed-of (within 8 (s .count) a) b
 
 -- what the head of accepted bytes says
 pub record Head (b : List ℕ) : Type 0 where
@@ -116,8 +127,8 @@ head-passed b h =
     search tests
 
 module _ (w : ℕ) (b : List ℕ) (e : first (setRows w b) ≡ passed) where
-  both : (first (headRows b) ≡ passed) × (first (limitsRows w (setOf b) 0 (countOf b)) ≡ passed)
-  both = both-passed (headRows b) (limitsRows w (setOf b) 0 (countOf b)) e
+  both : (first (headRows b) ≡ passed) × (first (testRows w (setOf b)) ≡ passed)
+  both = both-passed (headRows b) (testRows w (setOf b)) e
 
   pub accepted-head : Head b
   accepted-head = passed-head b (both .0)
@@ -125,5 +136,8 @@ module _ (w : ℕ) (b : List ℕ) (e : first (setRows w b) ≡ passed) where
   pub accepted-allowed : SetAllowed w (setOf b)
   accepted-allowed = allowed-of w (setOf b) (accepted-head .some, accepted-head .eight) (both .1)
 
-pub passed-rows : (w : ℕ) (b : List ℕ) → Head b → SetAllowed w (setOf b) → first (setRows w b) ≡ passed
-passed-rows w b h a = first-append (headRows b) (limitsRows w (setOf b) 0 (countOf b)) ∙ ap₂ and-then (head-passed b h) (allowed-limits w (setOf b) a)
+  pub accepted-something : LimitsNothing (setOf b) → ⊥
+  accepted-something = something-of w (setOf b) (both .1)
+
+pub passed-rows : (w : ℕ) (b : List ℕ) → Head b → SetAllowed w (setOf b) → (LimitsNothing (setOf b) → ⊥) → first (setRows w b) ≡ passed
+passed-rows w b h a f = passed-before (headRows b) (testRows w (setOf b)) (head-passed b h) ∙ passed-tests w (setOf b) a f

@@ -1,9 +1,11 @@
 -- What a turn of each loop does to the definition that the loop computes: of a list from limit i on, its first limit comes off, or one more is put on. Assumes nothing.
-use mathlib.Core.Path.{_≡_, refl, sym, ap, ap₂, _∙_}
+use mathlib.Core.Path.{_≡_, refl, sym, ap, ap₂, _∙_, subst}
+use mathlib.Core.Bool.{Bool, true, false}
 use mathlib.Core.List.{List, [], _∷_, _++_, append-assoc, append-nil}
 use Prim.Native.Nat.{ℕ, zero, suc, _+_, _-_, _*_, _≤_, _<_}
 use native.Mathlib.Numerals.{add-one}
 use native.Mathlib.Omega.{arith}
+use lib.Dec.{T}
 use lib.ListN.{length, replicate, set, take, drop, length-append, take-append-drop}
 use lib.Seq.{set-at, length-take-le}
 use Rattle.layout.specs.Refusal.{Row, passed, refused, first}
@@ -11,9 +13,12 @@ use Rattle.layout.specs.Head.{faultRow}
 use Rattle.layout.proofs.Head.{fault-before, no-fault-before}
 use Rattle.layout.proofs.Runs.{one-more, put-next}
 use Rattle.meaning.specs.declared.LimitSet.{LimitSet}
-use Rattle.meaning.specs.Sets.{zeroLimit, limitAt}
+use Rattle.meaning.specs.Sets.{zeroLimit, limitAt, ruleAt}
+use Rattle.meaning.specs.Test.{every, idle, allIdle}
+use Rattle.meaning.proofs.Decide.{and-T, T-of, T-true, not-T-false, every-at}
+use Rattle.meaning.proofs.Nothing.{nothing-tested}
 use Rattle.sets.specs.Bytes.{limitIn, limitsIn, setWith, bytesOfLimit, limitBytes}
-use Rattle.sets.specs.Rows.{limitRows, limitsRows}
+use Rattle.sets.specs.Rows.{limitRows, limitsRows, limitsNothing}
 
 module _ (w : ℕ) (s : LimitSet) (i c : ℕ) where
   abbrev later : List Row
@@ -33,6 +38,23 @@ module _ (w : ℕ) (s : LimitSet) (i c : ℕ) where
   pub limits-end : c ≤ i → first (limitsRows w s i (c - i)) ≡ passed
   unfolding limitsRows first
   limits-end h = let g : c - i ≡ zero = omega arith in rw g
+
+-- the first i limits are idle
+module _ (s : LimitSet) (i : ℕ) where
+  abbrev idleAt : ℕ → Bool
+  idleAt j = idle (ruleAt s j)
+
+  abbrev pub IdleTo : Type 0
+  IdleTo = T (every i idleAt)
+
+  pub idle-turn : IdleTo → idleAt i ≡ true → T (every (i + 1) idleAt)
+  idle-turn t e = subst (λ n. T (every n idleAt)) (sym (add-one i)) (and-T (idleAt i) (every i idleAt) .1 (T-of (idleAt i) e, t))
+
+  pub busy-stops : i < s .count → idleAt i ≡ false → limitsNothing s ≡ false
+  busy-stops h e = nothing-tested s ∙ not-T-false (allIdle s) (λ t. subst (λ z. T z) e (every-at (s .count) idleAt t i h))
+
+  pub idle-end : i ≡ s .count → IdleTo → limitsNothing s ≡ true
+  idle-end e t = nothing-tested s ∙ T-true (allIdle s) (subst (λ n. T (every n idleAt)) e t)
 
 limits-one-more : (b : List ℕ) (i : ℕ) → limitsIn b 0 i ++ limitIn b i ∷ [] ≡ limitsIn b 0 (i + 1)
 unfolding limitsIn

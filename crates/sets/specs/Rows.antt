@@ -1,5 +1,6 @@
--- RULES, Refusals: 1 to 7, as rows in the order tested.
-use mathlib.Core.Bool.{Bool, not, cond, _||_}
+-- RULES, Refusals: 1 to 7 and 21, as rows in the order tested.
+use mathlib.Core.Logic.{ite}
+use mathlib.Core.Bool.{Bool, true, false, not, cond, _||_}
 use mathlib.Core.List.{List, [], _∷_, _++_}
 use Prim.Native.Nat.{ℕ, zero, suc, _+_, _*_}
 use lib.Dec.{eqb, ltb}
@@ -8,7 +9,8 @@ use Rattle.layout.specs.Refusal.{Row, row}
 use Rattle.layout.specs.Head.{headRows as openingRows}
 use Rattle.meaning.specs.declared.Limit.{Limit}
 use Rattle.meaning.specs.declared.LimitSet.{LimitSet}
-use Rattle.meaning.specs.Sets.{limitAt}
+use Rattle.meaning.specs.Sets.{limitAt, LimitsNothing}
+use Rattle.meaning.proofs.Nothing.{nothing-dec}
 use Rattle.sets.specs.Bytes.{countOf, setOf}
 
 -- "the k of a limit isn't 1 to 12; for kind 3, isn't 0", with the widest window for 12
@@ -28,6 +30,18 @@ unfoldable pub limitsRows : (widest : ℕ) → LimitSet → (i n : ℕ) → List
 limitsRows widest s i zero = []
 limitsRows widest s i (suc n) = limitRows widest (limitAt s i) i ++ limitsRows widest s (suc i) n
 
+-- whether the set limits nothing: true where it keeps every pattern and false where it doesn't, since it is made of a decision of just that
+abbrev pub limitsNothing : LimitSet → Bool
+limitsNothing s = ite {P = LimitsNothing s} (nothing-dec s) true false
+
+-- "the set limits nothing"
+abbrev pub nothingRow : LimitSet → Row
+nothingRow s = row 21 (limitsNothing s) 0
+
+-- the limits of a set, each for itself and then together
+abbrev pub testRows : (widest : ℕ) → LimitSet → List Row
+testRows widest s = limitsRows widest s 0 (s .count) ++ nothingRow s ∷ []
+
 -- "c, or the count of a set in memory, is 0 or more than 8"
 abbrev pub countRow : ℕ → Row
 countRow c = row 3 (eqb c 0 || ltb 8 c) 0
@@ -38,8 +52,8 @@ headRows b = openingRows 6 1 1 2 b ++ (countRow (countOf b) ∷ row 4 (not (eqb 
 
 -- the bytes of a set
 abbrev pub setRows : (widest : ℕ) → List ℕ → List Row
-setRows widest b = headRows b ++ limitsRows widest (setOf b) 0 (countOf b)
+setRows widest b = headRows b ++ testRows widest (setOf b)
 
 -- a set that is in memory already
 abbrev pub memoryRows : (widest : ℕ) → LimitSet → List Row
-memoryRows widest s = countRow (s .count) ∷ limitsRows widest s 0 (s .count)
+memoryRows widest s = countRow (s .count) ∷ testRows widest s

@@ -1,12 +1,14 @@
 // The bytes of a set of limits, read and written.
-// Reading refuses by 1 to 7; writing a set that is already in memory by 3, 5, 6, 7 and then by 9.
+// Reading refuses by 1 to 7 and then by 21; writing a set that is already in memory by 3, 5, 6, 7, 21 and then by 9.
 ghost use mathlib.Core.Path.{_≡_};
 ghost use Prim.Native.Nat.{ℕ, _+_, _*_, _≤_};
 ghost use lib.ListN.{length};
 ghost use Rattle.layout.specs.Refusal.{first};
 ghost use Rattle.layout.specs.Head.{faultRow};
 ghost use Rattle.meaning.specs.Longest.{longest};
-ghost use Rattle.sets.specs.Rows.{limitRows, limitsRows, headRows};
+ghost use Rattle.meaning.specs.Limit.{ruleOf};
+ghost use Rattle.meaning.specs.Test.{idle};
+ghost use Rattle.sets.specs.Rows.{limitRows, limitsNothing, testRows, headRows};
 ghost use Rattle.sets.specs.Bytes.{setOf, countOf};
 ghost use Rattle.sets.specs.Read.{says, refusedRead, ReadAs};
 
@@ -61,10 +63,43 @@ fn fault(limit: Limit, widest: u8) -> u8
     0
 }
 
-// RULES, What each entry tests: "limit after limit, each for 5, 6 and 7".
+// Whether a limit with allowed numbers holds in every window, whatever its outcomes.
+fn is_idle(limit: Limit) -> bool
+    ensures { λ r. ⌜ r ≡ idle (ruleOf limit) ⌝ }
+{
+    let kind = limit.kind;
+    let x = limit.x;
+    let k = limit.k;
+    if kind < 2 {
+        return x == 0;
+    }
+    if kind == 2 {
+        return k <= x;
+    }
+    false
+}
+
+// Whether every pattern is kept: no limit of the set can be broken.
+fn limits_nothing(set: LimitSet) -> bool
+    requires { ⌜ set .count ≤ 8 ⌝ }
+    ensures { λ r. ⌜ r ≡ limitsNothing set ⌝ }
+{
+    let count = set.count;
+    let mut i = 0;
+    while i < count {
+        let limit = set.limits[i];
+        if !is_idle(limit) {
+            return false;
+        }
+        i += 1;
+    }
+    true
+}
+
+// RULES, What each entry tests: "limit after limit, each for 5, 6 and 7; then 21".
 fn test_limits(set: LimitSet, widest: u8) -> SetAnswer
     requires { ⌜ set .count ≤ 8 ⌝ }
-    ensures { λ r. ⌜ says r ≡ first (limitsRows widest set 0 (set .count)) ⌝ }
+    ensures { λ r. ⌜ says r ≡ first (testRows widest set) ⌝ }
 {
     let count = set.count;
     let mut i = 0;
@@ -75,6 +110,9 @@ fn test_limits(set: LimitSet, widest: u8) -> SetAnswer
             return SetAnswer::Refused { number, at: i };
         }
         i += 1;
+    }
+    if limits_nothing(set) {
+        return SetAnswer::Refused { number: 21, at: 0 };
     }
     SetAnswer::Accepted
 }

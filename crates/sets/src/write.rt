@@ -1,5 +1,5 @@
 // The bytes of a set that is in memory, written into a lent buffer.
-// Refuses by 3, 5, 6, 7 and then by 9, and a refusal writes nothing.
+// Refuses by 3, 5, 6, 7, 21 and then by 9, and a refusal writes nothing.
 ghost use mathlib.Core.Path.{_≡_};
 ghost use mathlib.Core.List.{_++_};
 ghost use Prim.Native.Nat.{_+_, _≤_};
@@ -16,7 +16,7 @@ use layout::WriteAnswer;
 use meaning::Limit;
 use meaning::LimitSet;
 
-// Tests 3, and then 5, 6, 7 of each limit.
+// Tests 3, then 5, 6, 7 of each limit, and then 21.
 fn test_memory(set: LimitSet, widest: u8) -> SetAnswer
     ensures { λ r. ⌜ says r ≡ first (memoryRows widest set) ⌝ }
 {

@@ -7,16 +7,16 @@ use borrow.Author.Needs.{needs}
 use Rattle.layout.specs.Refusal.{Tested, passed, refused, first}
 use Rattle.layout.proofs.Rows.{and-then, first-append}
 use Rattle.sets.specs.declared.SetRead.{SetRead}
-use Rattle.sets.specs.Bytes.{countOf, setOf}
-use Rattle.sets.specs.Rows.{headRows, limitsRows, setRows}
+use Rattle.sets.specs.Bytes.{setOf}
+use Rattle.sets.specs.Rows.{headRows, testRows, setRows}
 use Rattle.sets.specs.Read.{says, setWhen, ReadAs, refusedRead}
 use Rattle.sets.proofs.Accepted.{Head, passed-head}
 use Rattle.sets.proofs.read_set_within.Statement.{statement}
 use Rattle.sets.proofs.read_set_within.Tie as tie
 
 module _ (w : ℕ) (b : List ℕ) where
-  rows : (t u : Tested) → t ≡ first (headRows b) → u ≡ first (limitsRows w (setOf b) 0 (countOf b)) → first (setRows w b) ≡ and-then t u
-  rows t u e f = first-append (headRows b) (limitsRows w (setOf b) 0 (countOf b)) ∙ sym (ap₂ and-then e f)
+  rows : (t u : Tested) → t ≡ first (headRows b) → u ≡ first (testRows w (setOf b)) → first (setRows w b) ≡ and-then t u
+  rows t u e f = first-append (headRows b) (testRows w (setOf b)) ∙ sym (ap₂ and-then e f)
 
   read-refused : (n v : ℕ) (r : SetRead) → r ≡ refusedRead n v → first (setRows w b) ≡ refused n v → ReadAs w b r
   read-refused n v r e q =
@@ -37,7 +37,7 @@ tested : (c : tie.After-test-limits) → first (setRows (c .before .before .befo
 tested c =
     let h = c .before .before .before .before in
     let w = h .before .before .before .before .args .widest in
-    rows w (bytes h) _ _ (at-limits h) (c .test-limits .ensures ∙ ap (λ z. first (limitsRows w z 0 (z .count))) (c .before .take-limits .ensures))
+    rows w (bytes h) _ _ (at-limits h) (c .test-limits .ensures ∙ ap (λ z. first (testRows w z)) (c .before .take-limits .ensures))
 
 test-head-requires : tie.Need-test-head-requires
 test-head-requires c κs = search needs
