@@ -63,7 +63,7 @@
 
 /* The version of this header and of the archive that it came with. A program is compiled against the header of the
  * archive that it links. */
-#define FLOE_VERSION "0.7.0"
+#define FLOE_VERSION "0.8.0"
 
 #define FLOE_MOST_LIMITS 8        /* limits in a set, at the most */
 #define FLOE_LONGEST_SET 30       /* bytes of the longest set */
@@ -94,7 +94,8 @@ enum floe_outcome {
     FLOE_HIT = 1   /* the deadline was met */
 };
 
-/* The kind of a limit. Of the first three k is the length of the window, 1 to 16 jobs, and x is 0 to k. */
+/* The kind of a limit. Of the first three k is the length of the window, 1 to 16 jobs, and x is 0 to k. With x 0 the
+ * first two can't be broken, nor can the third with x = k: a set of such limits alone is refused by 21. */
 enum floe_kind {
     FLOE_ANY_HIT = 0,  /* at least x hits in every k jobs */
     FLOE_ROW_HIT = 1,  /* x hits in a row in every k jobs */
@@ -122,43 +123,46 @@ enum floe_log_answer {
 };
 
 /* Why a call is refused, and what `at` says then (where nothing is said, 0). The numbers are tested in this order,
- * limits first to last and each for its kind, k and x, and the first that applies is given; but a call on a row tests
- * FLOE_REFUSED_JOB first, floe_judge tests 26 before 13, floe_log_write tests 15, 13 and then 9, and floe_carry_read
- * tests 18, 1 to 7, 20, 13, 19, 10 to 12 and then 25. */
+ * limits first to last and each for its kind, k and x, and the first that applies is given; but 21 is tested straight
+ * after 1 to 7, a call on a row tests FLOE_REFUSED_JOB first, floe_judge tests 26 before 13, floe_log_write tests 15,
+ * 13 and then 9, and floe_carry_read tests 18, 1 to 7, 21, 20, 13, 19, 10 to 12 and then 25. */
 enum floe_refusal {
-    FLOE_ACCEPTED = 0,               /* the call was not refused */
-    FLOE_REFUSED_SET_LENGTH = 1,     /* set: under 6 bytes, or its length field isn't the count of bytes after it */
-    FLOE_REFUSED_SET_VERSION = 2,    /* the set's version isn't 1 */
-    FLOE_REFUSED_LIMIT_COUNT = 3,    /* the set's count of limits is 0 or above 8 */
-    FLOE_REFUSED_LIMITS_LENGTH = 4,  /* the set's length field isn't 2 + 3 * count */
-    FLOE_REFUSED_LIMIT_KIND = 5,     /* a limit's kind is above 3; at: its number, from 0 */
-    FLOE_REFUSED_LIMIT_K = 6,        /* a limit's k isn't one that its kind takes; at: its number, from 0 */
-    FLOE_REFUSED_LIMIT_X = 7,        /* a limit's x isn't one that its kind takes; at: its number, from 0 */
-    FLOE_REFUSED_WORK_LENGTH = 8,    /* the work area has fewer than 131072 entries */
-    FLOE_REFUSED_ROOM = 9,           /* the buffer is shorter than what must be written, a table, a set, a log or a
-                                        record; at: the length needed, in bytes */
-    FLOE_REFUSED_TABLE_LENGTH = 10,  /* table: under 7 bytes, or its length field isn't the count of bytes after it */
-    FLOE_REFUSED_TABLE_VERSION = 11, /* the table's version isn't 1 */
-    FLOE_REFUSED_STATES = 12,        /* the table's count of states n is 0 or above 32768, its length field isn't
-                                        3 + 4 * n, a next state is n or more (FF FF after a miss excepted), or the
-                                        guard's state is n or more */
-    FLOE_REFUSED_OUTCOME = 13,       /* an outcome is neither 0 nor 1; at: its place among the outcomes, from 0, and 0
-                                        in a tell */
-    FLOE_REFUSED_JOB = 14,           /* the row has no guard of this job's number, from 0, or more than 16 guards */
-    FLOE_REFUSED_LOG = 15,           /* log: under 9 bytes, or its length field isn't the count of bytes after it, its
-                                        version isn't 1, or its length field isn't 5 and the bytes that its count of
-                                        outcomes takes; or a pattern for a log has more than 4,294,967,295 outcomes */
-    FLOE_REFUSED_UNUSED_BITS = 16,   /* the low bits of the log's last byte that no outcome takes aren't all zero */
-    FLOE_REFUSED_COUNT = 17,         /* the guard was told 18,446,744,073,709,551,615 outcomes, UINT64_MAX, already */
-    FLOE_REFUSED_RECORD = 18,        /* record: its version is neither 1 nor 2; or it has under FLOE_RECORD_SIZE(0)
-                                        bytes, with version 1 under FLOE_OLD_RECORD_SIZE(0); or its length field isn't
-                                        the count of bytes after it */
-    FLOE_REFUSED_LOST_BYTE = 19,     /* the lost byte of the record is neither 0 nor 1 */
-    FLOE_REFUSED_OLD_RECORD = 20,    /* a record of version 1 whose set has a window of more than 12 jobs: what it holds
-                                        doesn't reach back so far, so start a new guard */
-    FLOE_REFUSED_WALK = 25,          /* the outcomes of the record can't be walked on the table from state 0 */
-    FLOE_REFUSED_PATTERN_LENGTH = 26 /* a pattern that is to be judged has more than 9,223,372,036,854,775,807 outcomes;
-                                        no memory of an x86-64 machine holds so many */
+    FLOE_ACCEPTED = 0,                /* the call was not refused */
+    FLOE_REFUSED_SET_LENGTH = 1,      /* set: under 6 bytes, or its length field isn't the count of bytes after it */
+    FLOE_REFUSED_SET_VERSION = 2,     /* the set's version isn't 1 */
+    FLOE_REFUSED_LIMIT_COUNT = 3,     /* the set's count of limits is 0 or above 8 */
+    FLOE_REFUSED_LIMITS_LENGTH = 4,   /* the set's length field isn't 2 + 3 * count */
+    FLOE_REFUSED_LIMIT_KIND = 5,      /* a limit's kind is above 3; at: its number, from 0 */
+    FLOE_REFUSED_LIMIT_K = 6,         /* a limit's k isn't one that its kind takes; at: its number, from 0 */
+    FLOE_REFUSED_LIMIT_X = 7,         /* a limit's x isn't one that its kind takes; at: its number, from 0 */
+    FLOE_REFUSED_WORK_LENGTH = 8,     /* the work area has fewer than 131072 entries */
+    FLOE_REFUSED_ROOM = 9,            /* the buffer is shorter than what must be written, a table, a set, a log or a
+                                         record; at: the length needed, in bytes */
+    FLOE_REFUSED_TABLE_LENGTH = 10,   /* table: under 7 bytes, or its length field isn't the count of bytes after it */
+    FLOE_REFUSED_TABLE_VERSION = 11,  /* the table's version isn't 1 */
+    FLOE_REFUSED_STATES = 12,         /* the table's count of states n is 0 or above 32768, its length field isn't
+                                         3 + 4 * n, a next state is n or more (FF FF after a miss excepted), or the
+                                         guard's state is n or more */
+    FLOE_REFUSED_OUTCOME = 13,        /* an outcome is neither 0 nor 1; at: its place among the outcomes, from 0, and 0
+                                         in a tell */
+    FLOE_REFUSED_JOB = 14,            /* the row has no guard of this job's number, from 0, or more than 16 guards */
+    FLOE_REFUSED_LOG = 15,            /* log: under 9 bytes, or its length field isn't the count of bytes after it, its
+                                         version isn't 1, or its length field isn't 5 and the bytes that its count of
+                                         outcomes takes; or a pattern for a log has more than 4,294,967,295 outcomes */
+    FLOE_REFUSED_UNUSED_BITS = 16,    /* the low bits of the log's last byte that no outcome takes aren't all zero */
+    FLOE_REFUSED_COUNT = 17,          /* the guard was told 18,446,744,073,709,551,615 outcomes, UINT64_MAX, already */
+    FLOE_REFUSED_RECORD = 18,         /* record: its version is neither 1 nor 2; or it has under FLOE_RECORD_SIZE(0)
+                                         bytes, with version 1 under FLOE_OLD_RECORD_SIZE(0); or its length field isn't
+                                         the count of bytes after it */
+    FLOE_REFUSED_LOST_BYTE = 19,      /* the lost byte of the record is neither 0 nor 1 */
+    FLOE_REFUSED_OLD_RECORD = 20,     /* a record of version 1 whose set has a window of more than 12 jobs: what it holds
+                                         doesn't reach back so far, so start a new guard */
+    FLOE_REFUSED_LIMITS_NOTHING = 21, /* the set keeps every pattern, so no guard would ever warn: each of its limits is
+                                         an AnyHit or RowHit with x 0 or an AnyMiss with x = k. Give at least one an x
+                                         that can be broken */
+    FLOE_REFUSED_WALK = 25,           /* the outcomes of the record can't be walked on the table from state 0 */
+    FLOE_REFUSED_PATTERN_LENGTH = 26  /* a pattern that is to be judged has more than 9,223,372,036,854,775,807 outcomes;
+                                         no memory of an x86-64 machine holds so many */
 };
 
 /* A compiler that can do so warns where an answer is dropped. What a guard was told is in the guard that comes back, so
@@ -223,7 +227,7 @@ typedef struct { uint64_t refused, at, answer, place; } floe_log_read;
  * Reads the bytes of a set: four bytes, big-endian, that count the bytes after them; the version, 1; the count of
  * limits, 1 to 8; and for each limit its kind, x and k. At most FLOE_LONGEST_SET bytes.
  *
- * Returns the set. Refuses by 1 to 7; the set that comes with a refusal has count 0 and holds zeros.
+ * Returns the set. Refuses by 1 to 7 and 21; the set that comes with a refusal has count 0 and holds zeros.
  */
 FLOE_NODISCARD floe_set_read floe_read_set(const uint8_t *set, size_t set_len);
 
@@ -233,7 +237,8 @@ FLOE_NODISCARD floe_set_read floe_read_set(const uint8_t *set, size_t set_len);
  *
  * length: how many bytes were written, 6 + 3 * count; 0 on a refusal.
  *
- * Refuses by 3 and by 5 to 7 for the set, then by 9 with the length that is needed in at, and then writes nothing.
+ * Refuses by 3, by 5 to 7 and by 21 for the set, then by 9 with the length that is needed in at, and then writes
+ * nothing.
  */
 FLOE_NODISCARD floe_written floe_write_set(floe_set set, uint8_t *bytes, size_t bytes_len);
 
@@ -250,8 +255,8 @@ FLOE_NODISCARD floe_written floe_write_set(floe_set set, uint8_t *bytes, size_t 
  * hits that count as standing before it. first is 0 where nothing is lost; but a window may begin with job 0, so look
  * at refused, and at kept or job, before it.
  *
- * Refuses by 1 to 7 for the set, then by 26 and then by 13 for the pattern: all of its outcomes are tested, even if it
- * is lost earlier.
+ * Refuses by 1 to 7 and 21 for the set, then by 26 and then by 13 for the pattern: all of its outcomes are tested, even
+ * if it is lost earlier.
  */
 FLOE_NODISCARD floe_verdict floe_judge(const uint8_t *set, size_t set_len,
                                        const uint8_t *pattern, size_t pattern_len);
@@ -263,15 +268,15 @@ FLOE_NODISCARD floe_verdict floe_judge(const uint8_t *set, size_t set_len,
  * the second doesn't, 1 to 16 outcomes, of equal lengths the one with a miss at the earliest place where they differ.
  * The places of pattern from length on are 0.
  *
- * Refuses by 1 to 7, the first set before the second. which says the set that is refused, 1 or 2; it is 0 where none
- * is. covers and length are 0 on a refusal.
+ * Refuses by 1 to 7 and 21, the first set before the second. which says the set that is refused, 1 or 2; it is 0 where
+ * none is. covers and length are 0 on a refusal.
  */
 FLOE_NODISCARD floe_comparison floe_compare(const uint8_t *first, size_t first_len,
                                             const uint8_t *second, size_t second_len);
 
 /*
  * Builds the table of a set: the smallest machine that walks exactly the patterns that the set keeps. Two sets that
- * keep the same patterns give the same bytes.
+ * keep the same patterns give the same bytes. It has a state in which a miss isn't allowed.
  *
  * work is lent for the call: FLOE_WORK_ENTRIES entries are used, whatever they hold. table takes the table's bytes, at
  * most FLOE_LONGEST_TABLE: four bytes, big-endian, that count the bytes after them; the version, 1; two bytes for the
@@ -280,9 +285,9 @@ FLOE_NODISCARD floe_comparison floe_compare(const uint8_t *first, size_t first_l
  *
  * length: the length of the table, 7 + 4 * n bytes; 0 on a refusal. Bytes of table beyond it are never written.
  *
- * Refuses by 1 to 7, then by 8, then by 9 with the length that is needed in at. Whether it builds or refuses by 9, it
- * leaves the first FLOE_WORK_ENTRIES entries of work zero; entries beyond those are never written. A refusal by 1 to 8
- * writes nothing, and one by 9 nothing to table.
+ * Refuses by 1 to 7 and 21, then by 8, then by 9 with the length that is needed in at. Whether it builds or refuses by
+ * 9, it leaves the first FLOE_WORK_ENTRIES entries of work zero; entries beyond those are never written. A refusal by
+ * another number writes nothing, and one by 9 nothing to table.
  */
 FLOE_NODISCARD floe_built floe_build(const uint8_t *set, size_t set_len, uint16_t *work, size_t work_len,
                                      uint8_t *table, size_t table_len);
@@ -433,8 +438,8 @@ FLOE_NODISCARD floe_done floe_row_tell(floe_guard *row, size_t count, size_t job
  *
  * length: the length of the record, FLOE_RECORD_SIZE(set_len); 0 on a refusal.
  *
- * Refuses by 1 to 7 for the set, then by 9 with the length that is needed in at, and then writes nothing. The guard is
- * never refused.
+ * Refuses by 1 to 7 and 21 for the set, then by 9 with the length that is needed in at, and then writes nothing. The
+ * guard is never refused.
  */
 FLOE_NODISCARD floe_written floe_carry_write(floe_guard guard, const uint8_t *set, size_t set_len,
                                              uint8_t *record, size_t record_len);
@@ -447,9 +452,10 @@ FLOE_NODISCARD floe_written floe_carry_write(floe_guard guard, const uint8_t *se
  * from state 0 ends; on a refusal a guard with nothing told. So look at refused first: that guard looks like one that
  * was just started.
  *
- * Refuses by 18; then by 1 to 7 for the set's bytes in the record; then by 20; then by 13 for its outcomes, with the
- * place, from 0, among those that it has in at; then by 19; then by 10 to 12 for the table; then by 25, whether or not
- * the record is of a lost guard. A count, outcomes and a lost byte that no guard has together aren't refused for that.
+ * Refuses by 18; then by 1 to 7 and 21 for the set's bytes in the record; then by 20; then by 13 for its outcomes, with
+ * the place, from 0, among those that it has in at; then by 19; then by 10 to 12 for the table; then by 25, whether or
+ * not the record is of a lost guard. A count, outcomes and a lost byte that no guard has together aren't refused for
+ * that.
  */
 FLOE_NODISCARD floe_started floe_carry_read(const uint8_t *record, size_t record_len,
                                             const uint8_t *table, size_t table_len);
@@ -511,8 +517,8 @@ FLOE_NODISCARD floe_log_read floe_log_next(uint64_t place, const uint8_t *log, s
  * Judges the outcomes that a log holds, under the set in these bytes: the verdict that floe_judge gives on the pattern
  * of which it is the log.
  *
- * Refuses by 1 to 7 for the set, then by 15 and by 16 for the log; kept is 0 then. It never refuses by 26, since no log
- * has so many outcomes.
+ * Refuses by 1 to 7 and 21 for the set, then by 15 and by 16 for the log; kept is 0 then. It never refuses by 26, since
+ * no log has so many outcomes.
  */
 FLOE_NODISCARD floe_verdict floe_log_judge(const uint8_t *set, size_t set_len, const uint8_t *log, size_t log_len);
 

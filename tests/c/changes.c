@@ -24,7 +24,7 @@ static const floe_set sets[] = {
     {1, {{FLOE_ANY_HIT, 1, 12}}},
     {1, {{FLOE_ROW_HIT, 2, 7}}},
     {3, {{FLOE_ANY_HIT, 2, 5}, {FLOE_ROW_HIT, 1, 4}, {FLOE_ANY_MISS, 6, 12}}},
-    {1, {{FLOE_ANY_MISS, 12, 12}}},
+    {2, {{FLOE_ANY_MISS, 12, 12}, {FLOE_ROW_MISS, 9, 0}}},
     {2, {{FLOE_ANY_HIT, 3, 16}, {FLOE_ROW_MISS, 13, 0}}},
     {1, {{FLOE_ROW_HIT, 3, 16}}},
     {1, {{FLOE_ANY_MISS, 3, 16}}},

@@ -70,6 +70,9 @@ static void kinds(void) {
         HOLDS(floe_judge(set, sizeof set, apart, 3).kept == kinds[i].apart);
     }
     HOLDS(refused(limit(FLOE_ROW_MISS + 1, 0, 1)) == FLOE_REFUSED_LIMIT_KIND);
+    HOLDS(refused(limit(FLOE_ANY_HIT, 0, 2)) == FLOE_REFUSED_LIMITS_NOTHING);
+    HOLDS(refused(limit(FLOE_ROW_HIT, 0, 2)) == FLOE_REFUSED_LIMITS_NOTHING);
+    HOLDS(refused(limit(FLOE_ANY_MISS, 2, 2)) == FLOE_REFUSED_LIMITS_NOTHING);
 }
 
 /* Where to look, below job 1 too: a first job is a signed number, and 0 alone doesn't say that nothing is lost. */

@@ -3,7 +3,7 @@
 use std::env;
 
 use crate::reference::guard::{Guard, HELD};
-use crate::reference::limits::{Limit, LONGEST_WINDOW, OLD_LONGEST_WINDOW};
+use crate::reference::limits::{limits_nothing, Limit, LONGEST_WINDOW, OLD_LONGEST_WINDOW};
 use crate::reference::{HIT, MISS};
 
 /// Marsaglia's xorshift64, with a multiplication so that the low bits are as good as the high ones.
@@ -38,7 +38,7 @@ impl Draw {
         self.number() as u8
     }
 
-    /// A limit with any allowed numbers.
+    /// A limit with any allowed numbers, seldom one that limits nothing.
     pub fn limit(&mut self) -> Limit {
         self.limit_within(LONGEST_WINDOW)
     }
@@ -68,7 +68,7 @@ impl Draw {
         Limit { kind, x: if kind == 2 { k - 1 - some } else { 1 + some.min(2) }, k }
     }
 
-    /// A set of 1 to 8 limits, one in two with no window that was too long before.
+    /// A set of 1 to 8 limits that isn't refused, one in two with no window that was too long before.
     pub fn set(&mut self) -> Vec<Limit> {
         let longest = self.of(&[OLD_LONGEST_WINDOW, LONGEST_WINDOW]);
         self.set_within(longest)
@@ -78,7 +78,20 @@ impl Draw {
         let count = 1 + self.below(8);
         let mild = !self.one_in(4);
         let limit = |draw: &mut Draw| if mild { draw.mild_limit_within(longest) } else { draw.limit_within(longest) };
-        (0..count).map(|_| limit(self)).collect()
+        let set: Vec<Limit> = (0..count).map(|_| limit(self)).collect();
+        if limits_nothing(&set) {
+            return self.set_within(longest);
+        }
+        set
+    }
+
+    /// A set of 1 to 8 limits that limits nothing.
+    pub fn idle_set(&mut self) -> Vec<Limit> {
+        let limit = |draw: &mut Draw| {
+            let (kind, k) = (draw.below(3) as u8, 1 + draw.below(LONGEST_WINDOW) as u8);
+            Limit { kind, x: if kind == 2 { k } else { 0 }, k }
+        };
+        (0..1 + self.below(8)).map(|_| limit(self)).collect()
     }
 
     /// A set that differs little from another, so that the first pattern between them is long.
@@ -98,6 +111,9 @@ impl Draw {
                 let most = if limit.kind == 3 { longest as u8 } else { limit.k };
                 limit.x = if limit.x == most { most - 1 } else { limit.x + 1 };
             }
+        }
+        if limits_nothing(&near) {
+            return self.neighbour_within(longest, set);
         }
         near
     }

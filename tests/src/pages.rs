@@ -58,7 +58,7 @@ pub struct Pages {
     pub patterns: Vec<Vec<u8>>,
 }
 
-/// Every limit on every pattern of at most 12 jobs.
+/// Every limit with allowed numbers on every pattern of at most 12 jobs.
 pub fn pages() -> &'static Pages {
     static PAGES: OnceLock<Pages> = OnceLock::new();
     PAGES.get_or_init(|| Pages::new(allowed_limits(), OLD_LONGEST_WINDOW))

@@ -2,7 +2,7 @@
 
 use floelinnet_tests::damage::spoilt_set;
 use floelinnet_tests::draw::{cases, Draw};
-use floelinnet_tests::reference::limits::allowed_limits;
+use floelinnet_tests::reference::limits::{accepted_limits, allowed_limits, limits_nothing, LONGEST_WINDOW};
 use floelinnet_tests::reference::table::{LONGEST_TABLE, WORK_ENTRIES};
 use floelinnet_tests::reference::{sets, table};
 use floelinnet_tests::{expected, floe};
@@ -11,7 +11,7 @@ use floelinnet_tests::{expected, floe};
 const MARGIN: usize = 16;
 
 /// Builds in buffers full of chance numbers. "Nothing that was lent is written, with one exception. A builder that is
-/// past 8, refused by none of 1 to 8, gives the first 131,072 entries of the work area back as zeros, where it builds and
+/// past 8, refused by none of 1 to 7, 21 and 8, gives the first 131,072 entries of the work area back as zeros, where it builds and
 /// where it refuses by 9." Refused or not, nothing is ever written to the entries of the work area after those, "to the
 /// bytes of a table buffer after 7+4n".
 fn agree(draw: &mut Draw, set: &[u8], work_entries: usize, room: usize) -> u64 {
@@ -39,7 +39,8 @@ fn agree(draw: &mut Draw, set: &[u8], work_entries: usize, room: usize) -> u64 {
 fn every_limit_alone() {
     let mut draw = Draw::new(41);
     for limit in allowed_limits() {
-        assert_eq!(agree(&mut draw, &sets::bytes(&[limit]), WORK_ENTRIES, LONGEST_TABLE), 0);
+        let want = if limits_nothing(&[limit]) { 21 } else { 0 };
+        assert_eq!(agree(&mut draw, &sets::bytes(&[limit]), WORK_ENTRIES, LONGEST_TABLE), want);
     }
 }
 
@@ -71,14 +72,14 @@ fn random_sets_and_rooms() {
 #[test]
 fn refused_sets_and_work_areas() {
     let mut draw = Draw::new(43);
-    let mut seen = [0; 10];
+    let mut seen = [0; 22];
     for _ in 0..cases(1_500) {
         let set = spoilt_set(&mut draw);
         let entries = draw.of(&[0, 1, WORK_ENTRIES - 1, WORK_ENTRIES]);
         let room = draw.of(&[0, 7, 100]);
         seen[agree(&mut draw, &set, entries, room) as usize] += 1;
     }
-    assert!((1..=8).all(|number| seen[number] > 10), "{seen:?}");
+    assert!((1..=8).chain([21]).all(|number| seen[number] > 10), "{seen:?}");
 }
 
 /// Builds with room for every set.
@@ -88,6 +89,23 @@ fn table_of(set: &[u8]) -> Vec<u8> {
     assert_eq!(built.refused, 0);
     bytes.truncate(built.length as usize);
     bytes
+}
+
+/// "fewer misses than the longest window has jobs bring such a set to panic": every table has a state that allows no miss,
+/// and misses alone lead there.
+#[test]
+fn every_table_has_a_panic() {
+    for limit in accepted_limits() {
+        let table = table_of(&sets::bytes(&[limit]));
+        let mut guard = floe::guard::start(&table).guard;
+        let normal = (0..).take_while(|_| {
+            let answer = floe::guard::ask(guard, &table).answer;
+            guard = floe::guard::tell(guard, &table, 0).guard;
+            answer == 0
+        });
+        assert!(normal.count() < LONGEST_WINDOW, "{limit:?}");
+        assert!(guard.lost, "{limit:?}");
+    }
 }
 
 /// A built table passes the check, and walks a pattern exactly as far as the verdict keeps it.

@@ -4,7 +4,7 @@ use floelinnet_tests::damage::{damage, drawn_table};
 use floelinnet_tests::draw::{cases, Draw};
 use floelinnet_tests::pages::pages;
 use floelinnet_tests::reference::guard::{ask, start, tell, Answer, Guard, Story, FRESH, HELD};
-use floelinnet_tests::reference::limits::{allowed_limits, Limit};
+use floelinnet_tests::reference::limits::{accepted_limits, Limit};
 use floelinnet_tests::reference::table::{self, LONGEST_TABLE, MOST_STATES, WORK_ENTRIES};
 use floelinnet_tests::{expected, floe};
 
@@ -127,7 +127,7 @@ fn outcomes_held() {
 #[test]
 fn all_short_patterns_on_tables_of_sets() {
     let mut draw = Draw::new(62);
-    let alone = allowed_limits().into_iter().map(|limit| vec![limit]);
+    let alone = accepted_limits().into_iter().map(|limit| vec![limit]);
     for limits in alone.chain((0..cases(40)).map(|_| draw.set())) {
         let table = table::bytes(&table::states(&limits));
         agree_on_start(&table);

@@ -9,7 +9,9 @@ use std::time::Duration;
 
 use floelinnet_tests::damage::spoilt_set;
 use floelinnet_tests::draw::{cases, Draw};
-use floelinnet_tests::reference::limits::{allowed_limits, limits_within, width, Limit, OLD_LONGEST_WINDOW};
+use floelinnet_tests::reference::limits::{
+    allowed_limits, limits_nothing, limits_within, width, Limit, OLD_LONGEST_WINDOW,
+};
 use floelinnet_tests::reference::table::states;
 use floelinnet_tests::reference::{refuse, sets, Refusal};
 use floelinnet_tests::tools;
@@ -86,7 +88,7 @@ fn worked() {
 /// One input for each refusal that the program can print.
 #[test]
 fn refusals() {
-    let rows: [(&[u8], &str); 11] = [
+    let rows: [(&[u8], &str); 14] = [
         (&[0, 0, 0, 6, 1, 1, 0, 1, 2], "refused 1 at 0\n"),
         (&[0, 0, 0, 5, 2, 1, 0, 1, 2], "refused 2 at 0\n"),
         (&[0, 0, 0, 5, 1, 9, 0, 1, 2], "refused 3 at 0\n"),
@@ -94,6 +96,10 @@ fn refusals() {
         (&[0, 0, 0, 8, 1, 2, 0, 1, 2, 4, 1, 2], "refused 5 at 1\n"),
         (&[0, 0, 0, 11, 1, 3, 0, 1, 2, 0, 1, 2, 1, 1, 13], "refused 6 at 2\n"),
         (&[0, 0, 0, 8, 1, 2, 0, 1, 2, 3, 13, 0], "refused 7 at 1\n"),
+        (&[0, 0, 0, 5, 1, 1, 2, 12, 12], "refused 21 at 0\n"),
+        (&[0, 0, 0, 8, 1, 2, 2, 12, 12, 1, 0, 3], "refused 21 at 0\n"),
+        // The window too long for the program is tested first.
+        (&[0, 0, 0, 5, 1, 1, 2, 13, 13], "refused 6 at 0\n"),
         // What the library takes.
         (&[0, 0, 0, 5, 1, 1, 0, 8, 16], "refused 6 at 0\n"),
         (&[0, 0, 0, 5, 1, 1, 3, 16, 0], "refused 7 at 0\n"),
@@ -140,7 +146,7 @@ fn files_of_sets() -> Vec<PathBuf> {
 fn every_file_of_sets() {
     let refused: Vec<u8> = files_of_sets().iter().map(|path| agree(&read(path).unwrap())).collect();
     assert!(refused.iter().filter(|&&number| number == 0).count() >= 5, "{refused:?}");
-    assert_eq!(refused.iter().filter(|&&number| number == 6).count(), 2, "{refused:?}");
+    assert_eq!([6, 21].map(|by| refused.iter().filter(|&&number| number == by).count()), [2, 1], "{refused:?}");
 }
 
 /// examples/table.rs prints what the program prints, by the library, and also the tables of the sets whose windows are too
@@ -169,6 +175,8 @@ fn every_limit_alone() {
     };
     assert_eq!(lines(Limit { kind: 0, x: 6, k: 12 }), 1 + 924);
     assert_eq!(limits_within(OLD_LONGEST_WINDOW).into_iter().map(lines).max(), Some(1 + 924));
+    let idle = allowed_limits().into_iter().filter(|&limit| limits_nothing(&[limit]) && width(limit) <= OLD_LONGEST_WINDOW);
+    idle.for_each(|limit| assert_eq!(agree(&sets::bytes(&[limit])), 21, "{limit:?}"));
 }
 
 /// Limits that the library takes and the program doesn't: of each kind and window the strictest and the mildest.
@@ -196,9 +204,9 @@ fn random_sets() {
     for _ in 0..cases(60) {
         assert_eq!(agree(&sets::bytes(&draw.set_within(OLD_LONGEST_WINDOW))), 0);
     }
-    let mut seen = [0; 8];
+    let mut seen = [0; 22];
     for _ in 0..cases(600) {
         seen[usize::from(agree(&spoilt_set(&mut draw)))] += 1;
     }
-    assert!((1..=7).all(|number| seen[number] > 5), "{seen:?}");
+    assert!((1..=7).chain([21]).all(|number| seen[number] > 5), "{seen:?}");
 }

@@ -6,7 +6,7 @@ use floelinnet_tests::reference::carry::{old_record, read, record, OLD_HELD};
 use floelinnet_tests::reference::compare::{between_tables, between_within};
 use floelinnet_tests::reference::guard::{ask, tell, Answer, Guard, Story, FRESH, HELD};
 use floelinnet_tests::reference::limits::{
-    allowed_limits, holds, limits_within, set_keeps, width, Limit, LONGEST_WINDOW, OLD_LONGEST_WINDOW,
+    accepted_limits, allowed_limits, holds, limits_nothing, limits_within, set_keeps, width, Limit, LONGEST_WINDOW, OLD_LONGEST_WINDOW,
 };
 use floelinnet_tests::reference::table::{bytes, check, states, State};
 use floelinnet_tests::reference::verdict::{lost, Lost};
@@ -111,6 +111,23 @@ fn states_of_half_the_window() {
     }
 }
 
+/// Whether a set keeps every pattern, by misses alone and by all patterns of at most 12 jobs, for windows that have room in
+/// them.
+#[test]
+fn sets_that_limit_nothing() {
+    let keeps_all = |limits: &[Limit]| pages().verdicts(limits).iter().all(Option::is_none);
+    let short = |limits: &[Limit]| limits.iter().all(|&limit| width(limit) <= OLD_LONGEST_WINDOW);
+    let mut draw = Draw::new(37);
+    let mut idle = 0;
+    let by_chance = (0..cases(200)).map(|_| if draw.one_in(2) { draw.idle_set() } else { vec![draw.limit(), draw.limit()] });
+    let alone = allowed_limits().into_iter().map(|limit| vec![limit]);
+    for limits in alone.chain(by_chance.collect::<Vec<_>>()).filter(|limits| short(limits)) {
+        assert_eq!(limits_nothing(&limits), keeps_all(&limits), "{limits:?}");
+        idle += usize::from(limits_nothing(&limits));
+    }
+    assert!(idle > 100, "{idle}");
+}
+
 /// The pages give back what the literal verdict says.
 #[test]
 fn pages_are_literal() {
@@ -187,7 +204,7 @@ fn guards_are_their_stories() {
 #[test]
 fn as_many_held_as_a_window_reaches_back() {
     let longest = |limits: Vec<Limit>| limits.into_iter().map(width).max();
-    assert_eq!((longest(allowed_limits()), HELD), (Some(LONGEST_WINDOW), LONGEST_WINDOW - 1));
+    assert_eq!((longest(accepted_limits()), HELD), (Some(LONGEST_WINDOW), LONGEST_WINDOW - 1));
     let old = limits_within(OLD_LONGEST_WINDOW);
     assert_eq!((longest(old), OLD_HELD), (Some(OLD_LONGEST_WINDOW), OLD_LONGEST_WINDOW - 1));
 }

@@ -46,14 +46,13 @@ fn compared(a: Limit, b: Limit, digits: &str) {
 
 #[test]
 fn tables() {
-    let rows: [(&[Limit], &[u8]); 4] = [
+    let rows: [(&[Limit], &[u8]); 3] = [
         (&[any_hit(1, 2)], &[0, 0, 0, 0x0B, 1, 0, 2, 0, 1, 0, 0, 0xFF, 0xFF, 0, 0]),
         (&[any_hit(1, 1), row_hit(3, 5)], &[0, 0, 0, 7, 1, 0, 1, 0xFF, 0xFF, 0, 0]),
         (
             &[row_hit(2, 4), any_miss(1, 3), any_hit(2, 3)],
             &[0, 0, 0, 0x0F, 1, 0, 3, 0, 1, 0, 0, 0xFF, 0xFF, 0, 2, 0xFF, 0xFF, 0, 0],
         ),
-        (&[any_miss(12, 12)], &[0, 0, 0, 7, 1, 0, 1, 0, 0, 0, 0]),
     ];
     for (limits, table) in rows {
         for &limit in limits {
@@ -116,4 +115,7 @@ fn refusals() {
     assert_eq!(refused(&[row_miss(17)]), 7);
     assert_eq!(refused(&[any_hit(1, 2); 8]), 0);
     assert_eq!(refused(&[any_hit(1, 2); 9]), 3);
+    assert_eq!(refused(&[any_miss(12, 12)]), 21);
+    assert_eq!(refused(&[any_miss(11, 12)]), 0);
+    assert_eq!(refused(&[any_miss(12, 12), any_hit(1, 2)]), 0);
 }

@@ -40,7 +40,7 @@ impl Guard {
     /// and one that is 1 if the guard is lost, else 0. The state isn't in it: [`read_record`](Guard::read_record) walks
     /// the outcomes on a table from state 0.
     ///
-    /// Refuses by 1 to 7 for the set, then by 9 with the length that is needed, and then writes nothing.
+    /// Refuses by 1 to 7 and 21 for the set, then by 9 with the length that is needed, and then writes nothing.
     ///
     /// ```
     /// use floelinnet::{record_size, Guard, Refused, LONGEST_RECORD, MISS};
@@ -144,9 +144,9 @@ impl Guard {
     /// # Ok::<(), Refused>(())
     /// ```
     ///
-    /// Refuses by 18; then by 1 to 7 for the set's bytes in the record; then by 20; then by 13 with the place among its
-    /// outcomes; then by 19; then by 10 to 12 for the table; then by 25, whether or not the record is of a lost guard. The
-    /// guard that the library gives beside a refusal, one with nothing told, isn't handed on.
+    /// Refuses by 18; then by 1 to 7 and 21 for the set's bytes in the record; then by 20; then by 13 with the place among
+    /// its outcomes; then by 19; then by 10 to 12 for the table; then by 25, whether or not the record is of a lost guard.
+    /// The guard that the library gives beside a refusal, one with nothing told, isn't handed on.
     #[must_use = "the guard is what comes back"]
     pub fn read_record(record: &[u8], table: &[u8]) -> Result<Guard, Refused> {
         let read = raw::carry_read(record, table);

@@ -60,7 +60,7 @@ impl Error for RefusedSet {}
 
 /// Compares two sets: does the first demand at least as much as the second?
 ///
-/// Refuses by 1 to 7, the first set before the second.
+/// Refuses by 1 to 7 and 21, the first set before the second.
 ///
 /// ```
 /// use floelinnet::{compare, Comparison, RefusedSet};

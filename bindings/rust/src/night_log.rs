@@ -49,7 +49,7 @@ pub fn write_log(pattern: &[u8], out: &mut [u8]) -> Result<usize, Refused> {
 /// Judges the outcomes that a night log holds, under the set in these bytes: the verdict that [`judge`](crate::judge)
 /// gives on the pattern of which it is the log.
 ///
-/// Refuses by 1 to 7 for the set, then by 15 and by 16 for the log, and never by 26: no log has so many outcomes.
+/// Refuses by 1 to 7 and 21 for the set, then by 15 and by 16 for the log, and never by 26: no log has so many outcomes.
 ///
 /// ```
 /// use floelinnet::{judge_log, Refused, Verdict};

@@ -3,8 +3,8 @@ use core::fmt;
 
 use crate::{old_record_size, record_size, WORK_ENTRIES};
 
-/// Why a call was refused. The tests are made in the order of the numbers, unless a function's page says otherwise, and
-/// the first that applies is given.
+/// Why a call was refused. The tests are made in the order of the numbers, but for 21, which comes straight after 1 to 7,
+/// and unless a function's page says otherwise; the first that applies is given.
 #[derive(Clone, Copy, PartialEq, Eq, Hash, Debug)]
 pub enum Refused {
     /// 1: the set has fewer than 6 bytes, or its length field isn't the count of bytes after it.
@@ -73,6 +73,9 @@ pub enum Refused {
     /// 20: the record has version 1, and its set has a window of more than 12 jobs. Its 11 outcomes don't reach back so
     /// far, and no guard had such a set when version 1 was written: start a new guard.
     OldRecord,
+    /// 21: the set keeps every pattern, so no guard would ever warn. Each of its limits is an AnyHit or RowHit with x 0 or
+    /// an AnyMiss with x = k: give at least one of them an x that can be broken.
+    LimitsNothing,
     /// 25: the outcomes of the record can't be walked on the table from state 0. The table wasn't built from the set
     /// that the record carries, or the record's bytes were changed since it was written.
     Walk,
@@ -81,7 +84,7 @@ pub enum Refused {
 }
 
 impl Refused {
-    /// The number of the refusal, 1 to 20, 25 or 26.
+    /// The number of the refusal, 1 to 21, 25 or 26.
     pub fn number(self) -> u8 {
         match self {
             Refused::SetLength => 1,
@@ -104,6 +107,7 @@ impl Refused {
             Refused::Record => 18,
             Refused::LostByte => 19,
             Refused::OldRecord => 20,
+            Refused::LimitsNothing => 21,
             Refused::Walk => 25,
             Refused::PatternLength => 26,
         }
@@ -171,6 +175,10 @@ impl fmt::Display for Refused {
                 "the record has version 1, and its set has a window of more than 12 jobs: a record of version 1 can only \
                  be of shorter ones, so start a new guard",
             ),
+            Refused::LimitsNothing => f.write_str(
+                "the set keeps every pattern, so no warning would ever come: give at least one limit an x that can be \
+                 broken (AnyHit and RowHit at least 1, AnyMiss below its k)",
+            ),
             Refused::Walk => f.write_str(
                 "the outcomes of the record can't be walked on the table: build the table from the set that the record \
                  carries, or, if it was, the record's bytes were changed, so start a new guard",
@@ -207,6 +215,7 @@ pub(crate) fn accepted(refused: u64, at: u64) -> Result<(), Refused> {
         18 => Refused::Record,
         19 => Refused::LostByte,
         20 => Refused::OldRecord,
+        21 => Refused::LimitsNothing,
         25 => Refused::Walk,
         26 => Refused::PatternLength,
         number => crate::no_such("refusal", number),
@@ -220,7 +229,7 @@ mod tests {
     /// 26 is among them, which no call through a slice can give.
     #[test]
     fn each_number_is_its_own() {
-        for number in (1..=20).chain([25, 26]) {
+        for number in (1..=21).chain([25, 26]) {
             assert_eq!(accepted(number, 7).map_err(Refused::number), Err(number as u8));
         }
         assert_eq!(accepted(26, 0), Err(Refused::PatternLength));

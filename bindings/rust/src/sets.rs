@@ -3,7 +3,8 @@ use core::fmt;
 use crate::refused::accepted;
 use crate::{no_such, raw, Refused, LONGEST_SET};
 
-/// One limit: what has to hold in every window of its length, 1 to 16 jobs. [`LimitSet::new`] judges the numbers.
+/// One limit: what has to hold in every window of its length, 1 to 16 jobs. [`LimitSet::new`] judges the numbers. A limit
+/// that can't be broken, an AnyHit or RowHit with x 0 or an AnyMiss with x = k, is taken beside one that can.
 #[derive(Clone, Copy, PartialEq, Eq, Hash, Debug)]
 pub enum Limit {
     /// At least x hits in k jobs.
@@ -69,7 +70,7 @@ impl fmt::Display for Limit {
     }
 }
 
-/// A set of 1 to 8 limits whose numbers are allowed: made of [`Limit`]s by [`LimitSet::new`], or read by [`read_set`].
+/// A set of 1 to 8 limits whose numbers are allowed, and that loses some pattern: made of [`Limit`]s by [`LimitSet::new`], or read by [`read_set`].
 #[derive(Clone, Copy, PartialEq, Eq)]
 pub struct LimitSet {
     set: raw::Set,
@@ -80,7 +81,7 @@ pub struct LimitSet {
 impl LimitSet {
     /// The set of these limits, in this order. It is the library that judges them, when it writes the set's bytes.
     ///
-    /// Refuses by 3, and by 6 and 7 with the number of the limit.
+    /// Refuses by 3, by 6 and 7 with the number of the limit, and by 21.
     ///
     /// ```
     /// use floelinnet::{Limit, LimitSet, Refused};
@@ -91,6 +92,8 @@ impl LimitSet {
     /// assert_eq!(LimitSet::new(&[]), Err(Refused::LimitCount));
     /// let window_too_long = Limit::AnyHit { x: 1, k: 17 };
     /// assert_eq!(LimitSet::new(&[window_too_long]), Err(Refused::LimitK { limit: 0 }));
+    /// // At most 12 misses in 12 jobs: that is always so.
+    /// assert_eq!(LimitSet::new(&[Limit::AnyMiss { x: 12, k: 12 }]), Err(Refused::LimitsNothing));
     /// # Ok::<(), Refused>(())
     /// ```
     pub fn new(limits: &[Limit]) -> Result<LimitSet, Refused> {
@@ -126,7 +129,7 @@ impl fmt::Debug for LimitSet {
 /// Reads the bytes of a set: four bytes, big-endian, that count the bytes after them; the version, 1; the count of
 /// limits; and for each limit its kind (0 AnyHit, 1 RowHit, 2 AnyMiss, 3 RowMiss), x and k (0 for RowMiss).
 ///
-/// Refuses by 1 to 7.
+/// Refuses by 1 to 7 and 21.
 ///
 /// ```
 /// use floelinnet::{read_set, Limit, Refused};

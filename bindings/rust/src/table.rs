@@ -11,9 +11,9 @@ use crate::{raw, Refused};
 /// [`LONGEST_TABLE`](crate::LONGEST_TABLE) serve every set. They are large for a stack, 262,144 and 131,079 bytes, so a
 /// thread that hasn't much of it has them elsewhere.
 ///
-/// Refuses by 1 to 7, then by 8, then by 9 with the length that is needed. Whether it builds or refuses by 9, it leaves
-/// the first [`WORK_ENTRIES`](crate::WORK_ENTRIES) entries of `work` zero. Nothing else is written, but for the table
-/// where it builds.
+/// Refuses by 1 to 7 and 21, then by 8, then by 9 with the length that is needed. Whether it builds or refuses by 9, it
+/// leaves the first [`WORK_ENTRIES`](crate::WORK_ENTRIES) entries of `work` zero. Nothing else is written, but for the
+/// table where it builds.
 ///
 /// ```
 /// use floelinnet::{build, Refused, LONGEST_TABLE, WORK_ENTRIES};

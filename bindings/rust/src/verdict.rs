@@ -48,8 +48,8 @@ impl fmt::Display for Verdict {
 
 /// Judges a pattern of outcomes, oldest first, under the set in these bytes.
 ///
-/// Refuses by 1 to 7 for the set, then by 26, which no slice is long enough for, then by 13 for the pattern, even if it
-/// is lost before the outcome that is none.
+/// Refuses by 1 to 7 and 21 for the set, then by 26, which no slice is long enough for, then by 13 for the pattern, even
+/// if it is lost before the outcome that is none.
 ///
 /// ```
 /// use floelinnet::{judge, Refused, Verdict};

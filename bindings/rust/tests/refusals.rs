@@ -6,6 +6,9 @@ const SET: [u8; 9] = [0, 0, 0, 5, 1, 1, 0, 1, 2];
 const LOG: [u8; 10] = [0, 0, 0, 6, 1, 0, 0, 0, 4, 0b1101_0000];
 const TABLE: [u8; 15] = [0, 0, 0, 11, 1, 0, 2, 0, 1, 0, 0, 0xFF, 0xFF, 0, 0];
 
+const LIMITS_NOTHING: &str = "the set keeps every pattern, so no warning would ever come: give at least one limit an x \
+                              that can be broken (AnyHit and RowHit at least 1, AnyMiss below its k)";
+
 /// The bytes with one of them changed.
 fn with<const N: usize>(mut bytes: [u8; N], place: usize, byte: u8) -> [u8; N] {
     bytes[place] = byte;
@@ -35,6 +38,8 @@ fn of_sets() {
     says(refused(&three(4, 1, 2)), 5, 2, "the kind of limit 2 is above 3");
     says(refused(&three(3, 1, 2)), 6, 2, "the k of limit 2 isn't 1 to 16 (RowMiss: 0)");
     says(refused(&three(0, 3, 2)), 7, 2, "the x of limit 2 isn't 0 to its k (RowMiss: 1 to 16)");
+    says(refused(&[0, 0, 0, 8, 1, 2, 0, 0, 2, 2, 12, 12]), 21, 0, LIMITS_NOTHING);
+    assert!(read_set(&[0, 0, 0, 8, 1, 2, 0, 0, 2, 2, 11, 12]).is_ok()); // one limit that can be broken is enough
 }
 
 #[test]
@@ -47,6 +52,12 @@ fn of_sets_made_of_limits() {
     let (k_too_long, x_above_k) = (Limit::RowHit { x: 1, k: 17 }, Limit::AnyMiss { x: 3, k: 2 });
     says(refused(&[one_of_two, k_too_long]), 6, 1, "the k of limit 1 isn't 1 to 16 (RowMiss: 0)");
     says(refused(&[one_of_two, x_above_k]), 7, 1, "the x of limit 1 isn't 0 to its k (RowMiss: 1 to 16)");
+    let idle = [Limit::AnyHit { x: 0, k: 2 }, Limit::RowHit { x: 0, k: 16 }, Limit::AnyMiss { x: 12, k: 12 }];
+    for limits in [&idle[..1], &idle[1..2], &idle[2..], &idle] {
+        says(refused(limits), 21, 0, LIMITS_NOTHING);
+    }
+    assert_eq!(refused(&[idle[0], x_above_k]), Refused::LimitX { limit: 1 }); // 7 of every limit before 21
+    assert!(LimitSet::new(&[idle[0], one_of_two, idle[2]]).is_ok());
     for x in [0, 17] {
         says(refused(&[Limit::RowMiss { x }]), 7, 0, "the x of limit 0 isn't 0 to its k (RowMiss: 1 to 16)");
     }
@@ -67,6 +78,7 @@ fn of_builds() {
     );
     assert!(work.iter().all(|&entry| entry == 0) && table == [7; 14]);
     assert_eq!(build(&SET[..8], &mut work, &mut table), Err(Refused::SetLength));
+    assert_eq!(build(&with(SET, 7, 0), &mut work[1..], &mut table), Err(Refused::LimitsNothing)); // 21 before 8
 }
 
 #[test]
@@ -94,6 +106,7 @@ fn of_tables_and_guards() {
 #[test]
 fn of_outcomes() {
     says(judge(&SET, &[0, 0, 1, 2, 255]).unwrap_err(), 13, 3, "the outcome at place 3 is neither 0 nor 1");
+    assert_eq!(judge(&with(SET, 7, 0), &[2]), Err(Refused::LimitsNothing)); // 21 before 13
     says(lost().tell(&TABLE, 2).unwrap_err(), 13, 0, "the outcome at place 0 is neither 0 nor 1");
 }
 
@@ -149,6 +162,7 @@ fn of_written_records() {
     );
     assert_eq!(guard.write_record(&SET[..8], &mut record), Err(Refused::SetLength)); // the set before the buffer
     assert_eq!(guard.write_record(&with(SET, 8, 17), &mut []), Err(Refused::LimitK { limit: 0 }));
+    assert_eq!(guard.write_record(&with(SET, 7, 0), &mut []), Err(Refused::LimitsNothing)); // 21 before 9
     assert_eq!(record, [7; 37]);
 }
 
@@ -167,6 +181,7 @@ fn of_records() {
         says(refused(&with(record, 4, version), &TABLE), 18, 0, words);
     }
     assert_eq!(refused(&with(record, 9, 2), &[]), Refused::SetVersion);
+    assert_eq!(refused(&with(record, 12, 0), &[]), Refused::LimitsNothing);
     says(refused(&with(record, 28, 2), &[]), 13, 14, "the outcome at place 14 is neither 0 nor 1");
     let words = "the lost byte of the record is neither 0 nor 1: its bytes were changed, so start a new guard";
     says(refused(&with(record, 37, 2), &[]), 19, 0, words);
@@ -190,6 +205,7 @@ fn of_old_records() {
     says(refused(&longer), 20, 0, words);
     assert_eq!(refused(&with(longer, 24, 2)), Refused::OldRecord);
     assert_eq!(refused(&with(longer, 13, 17)), Refused::LimitK { limit: 0 });
+    assert_eq!(refused(&with(longer, 12, 0)), Refused::LimitsNothing); // 21 before 20
     assert_eq!(refused(&with(record, 24, 2)), Refused::Outcome { place: 10 });
     assert_eq!(refused(&record[..33]), Refused::Record);
     assert_eq!(refused(&with(record, 4, 2)), Refused::SetLength); // its set would end four bytes earlier
@@ -219,6 +235,7 @@ fn of_logs() {
         assert_eq!(judge_log(&SET[..8], log), Err(Refused::SetLength)); // the set before the log
     }
     assert_eq!(judge_log(&with(SET, 7, 3), &[]), Err(Refused::LimitX { limit: 0 }));
+    assert_eq!(judge_log(&with(SET, 7, 0), &[]), Err(Refused::LimitsNothing)); // 21 before 15
 }
 
 #[test]
@@ -250,6 +267,7 @@ fn of_comparisons() {
     assert_eq!(first.to_string(), "first set: refusal 6: the k of limit 0 isn't 1 to 16 (RowMiss: 0)");
     let second = compare(&SET, &bad).unwrap_err();
     assert_eq!(second, RefusedSet::Second(Refused::LimitK { limit: 0 }));
+    assert_eq!(compare(&with(SET, 7, 0), &bad), Err(RefusedSet::First(Refused::LimitsNothing)));
     assert_eq!(second.to_string(), "second set: refusal 6: the k of limit 0 isn't 1 to 16 (RowMiss: 0)");
 }
 

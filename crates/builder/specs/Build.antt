@@ -37,7 +37,7 @@ abbrev pub lengthOf : BuildAnswer → ℕ
 lengthOf (Built n) = n
 lengthOf (Refused number at) = 0
 
--- RULES, What a refusal leaves: "A builder that is past 8, refused by none of 1 to 8, gives the first 131,072 entries of the work area back as zeros"; "nothing is ever written to the entries of the work area after those 131,072". In the printing program they are 8,192.
+-- RULES, What a refusal leaves: "A builder that is past 8, refused by none of 1 to 7, 21 and 8, gives the first 131,072 entries of the work area back as zeros"; "nothing is ever written to the entries of the work area after those 131,072". In the printing program they are 8,192.
 pub record ClearedTo (size : ℕ) (w w′ : List ℕ) : Type 0 where
   pub length-stays : length w′ ≡ length w
   pub zero : (k : ℕ) → k < size → getD w′ k 0 ≡ 0

@@ -1,5 +1,5 @@
 // A guard's record, written into a lent buffer.
-// Refuses by 1 to 7 and then by 9, and a refusal writes nothing.
+// Refuses by 1 to 7, 21 and then by 9, and a refusal writes nothing.
 ghost use mathlib.Core.Path.{_≡_};
 ghost use mathlib.Core.List.{_++_, map};
 ghost use Prim.Native.Nat.{_+_, _≤_, _<_};

@@ -1,5 +1,5 @@
 // Does one set of limits demand at least as much as another? If not, the first pattern between them.
-// Refuses by 1 to 7 for the first set, then for the second, and says which.
+// Refuses by 1 to 7 and 21 for the first set, then for the second, and says which.
 ghost use mathlib.Core.Path.{_≡_};
 ghost use mathlib.Core.Logic.{_↔_};
 ghost use mathlib.Core.Bool.{true, false};

@@ -1,4 +1,4 @@
--- An accepted set that is given room isn't refused: 1 to 7 don't hold, the work area is long enough for 8, and the buffer for every table. Assumes nothing.
+-- An accepted set that is given room isn't refused: 1 to 7 and 21 don't hold, the work area is long enough for 8, and the buffer for every table. Assumes nothing.
 use mathlib.Core.Path.{_≡_, refl, sym, _∙_}
 use mathlib.Core.List.{List, [], _∷_}
 use Prim.Native.Nat.{ℕ}

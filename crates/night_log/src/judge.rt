@@ -1,5 +1,5 @@
 // The verdict on the outcomes that a log holds: one pass over the packed bytes.
-// Refuses by 1 to 7 for the set, then by 15 and 16 for the log.
+// Refuses by 1 to 7 and 21 for the set, then by 15 and 16 for the log.
 ghost use mathlib.Core.List.{[]};
 ghost use mathlib.Core.Path.{_≡_};
 ghost use Prim.Native.Nat.{_<_, _≤_};

@@ -62,7 +62,7 @@ pub record Lent (input : List ℕ) (size : ℕ) (work table out : List ℕ) : Ty
 abbrev pub inputTests : (widest : ℕ) → (input : List ℕ) → Tested
 inputTests widest input = first (inputRow input ∷ setRows widest input)
 
--- nothing of the text is cut off, and it is the set's table or a refusal by 1 to 7
+-- nothing of the text is cut off, and it is the set's table or a refusal by 1 to 7 or 21
 pub record PrintedWhole (widest : ℕ) (input work work′ table table′ out out′ : List ℕ) (r : ℕ) : Type 0 where
   pub printed : PrintedAs widest input work work′ table table′ out out′ r
   pub whole : (m : Machine) × ((inputTests widest input ≡ passed → Canonical m (KeptBy (setOf input))) × (take r out′ ≡ textWhen (inputTests widest input) m))

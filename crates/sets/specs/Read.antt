@@ -1,4 +1,4 @@
--- RULES, What each entry tests, reading a set: "1, 2, 3, 4; then limit after limit, each for 5, 6 and 7", and else "the set".
+-- RULES, What each entry tests, reading a set: "1, 2, 3, 4; then limit after limit, each for 5, 6 and 7; then 21", and else "the set".
 use mathlib.Core.Path.{_≡_}
 use mathlib.Core.List.{List}
 use Prim.Native.Nat.{ℕ}

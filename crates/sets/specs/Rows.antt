@@ -25,7 +25,7 @@ xOutside widest l = cond (eqb (l .kind) 3) (eqb (l .x) 0 || ltb widest (l .x)) (
 abbrev pub limitRows : (widest : ℕ) → Limit → (i : ℕ) → List Row
 limitRows widest l i = row 5 (ltb 3 (l .kind)) i ∷ row 6 (kOutside widest l) i ∷ row 7 (xOutside widest l) i ∷ []
 
--- RULES, What each entry tests: "limit after limit, each for 5, 6 and 7", the n limits from limit i on
+-- RULES, What each entry tests: "limit after limit, each for 5, 6 and 7; then 21". The n limits from limit i on
 unfoldable pub limitsRows : (widest : ℕ) → LimitSet → (i n : ℕ) → List Row
 limitsRows widest s i zero = []
 limitsRows widest s i (suc n) = limitRows widest (limitAt s i) i ++ limitsRows widest s (suc i) n

@@ -1,5 +1,5 @@
 // The verdict on a pattern: kept, or lost at a job with the lowest limit that breaks there and its earliest broken window.
-// Refuses by 1 to 7 for the set, then by 26 and by 13 for the whole pattern, even where it is lost earlier.
+// Refuses by 1 to 7 and 21 for the set, then by 26 and by 13 for the whole pattern, even where it is lost earlier.
 ghost use mathlib.Core.Path.{_≡_};
 ghost use mathlib.Core.List.{[]};
 ghost use Prim.Native.Nat.{_-_, _≤_, _<_, _^_};

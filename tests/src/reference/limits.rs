@@ -61,13 +61,28 @@ pub fn panics(set: &[Limit], pattern: &[u8]) -> bool {
     set_keeps(set, pattern) && !set_keeps(set, &[pattern, &[MISS]].concat())
 }
 
-/// Every limit with the "allowed numbers".
-pub fn allowed_limits() -> Vec<Limit> {
+/// "A set limits nothing when it keeps every pattern." Where it loses one, a window of some limit fails, and with more
+/// misses it fails too: as many misses as the longest window has jobs are lost as well.
+pub fn limits_nothing(set: &[Limit]) -> bool {
+    set_keeps(set, &[MISS; LONGEST_WINDOW])
+}
+
+/// Every limit that is a set of its own: with the "allowed numbers", and not one that limits nothing.
+pub fn accepted_limits() -> Vec<Limit> {
     limits_within(LONGEST_WINDOW)
 }
 
 /// Those whose windows have at most so many jobs.
 pub fn limits_within(longest: usize) -> Vec<Limit> {
+    allowed_within(longest).into_iter().filter(|&limit| !limits_nothing(&[limit])).collect()
+}
+
+/// Every limit with the "allowed numbers", those that limit nothing too: beside others a set may have them.
+pub fn allowed_limits() -> Vec<Limit> {
+    allowed_within(LONGEST_WINDOW)
+}
+
+fn allowed_within(longest: usize) -> Vec<Limit> {
     let longest = longest as u8;
     let mut limits = Vec::new();
     for kind in 0..3 {

@@ -93,7 +93,7 @@ pub fn handed_out(place: u64, held: &Result<Vec<u8>, Refusal>) -> Read {
     }
 }
 
-/// "Judging tests 1 to 7, 15, 16, and else equals judging the outcomes it holds."
+/// "as reading a set; then 15, 16", and else "what the verdict on the outcomes that the log holds is"
 pub fn judge(set: &[u8], log: &[u8]) -> Result<Option<Lost>, Refusal> {
     sets::read(set)?;
     verdict::judge(set, &outcomes(log)?)

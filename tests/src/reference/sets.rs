@@ -1,6 +1,6 @@
 //! RULES, Bytes of a set and A set in memory: reading and writing.
 
-use super::limits::{Limit, LONGEST_WINDOW};
+use super::limits::{limits_nothing, Limit, LONGEST_WINDOW};
 use super::{big_endian, refuse, Refusal};
 
 pub fn read(bytes: &[u8]) -> Result<Vec<Limit>, Refusal> {
@@ -29,14 +29,11 @@ pub fn read_within(longest: usize, bytes: &[u8]) -> Result<Vec<Limit>, Refusal> 
     // "3 for each limit, in order": "its kind, its x, its k"
     let limits: Vec<Limit> =
         bytes[6..].chunks(3).map(|limit| Limit { kind: limit[0], x: limit[1], k: limit[2] }).collect();
-    // "then limit after limit, each for 5, 6 and 7"
-    for (number, limit) in limits.iter().enumerate() {
-        test(longest, limit, number)?;
-    }
+    test_all(longest, &limits)?;
     Ok(limits)
 }
 
-/// "3; then limit after limit, each for 5, 6 and 7; then 9 with 6+3c". Of a set in memory "the records from the count on
+/// "3; then limit after limit, each for 5, 6 and 7; then 21; then 9 with 6+3c". Of a set in memory "the records from the count on
 /// are not in use", and "nothing looks at them".
 pub fn write(count: u64, places: &[Limit; 8], room: usize) -> Result<Vec<u8>, Refusal> {
     // "the count of a set in memory, is 0 or more than 8"
@@ -44,15 +41,25 @@ pub fn write(count: u64, places: &[Limit; 8], room: usize) -> Result<Vec<u8>, Re
         return refuse(3, 0);
     }
     let limits = &places[..count as usize];
-    for (number, limit) in limits.iter().enumerate() {
-        test(LONGEST_WINDOW, limit, number)?;
-    }
+    test_all(LONGEST_WINDOW, limits)?;
     // "the buffer is shorter than what must be written: .. 6+3c of a set"
     let bytes = bytes(limits);
     if room < bytes.len() {
         return refuse(9, bytes.len());
     }
     Ok(bytes)
+}
+
+/// "then limit after limit, each for 5, 6 and 7; then 21"
+fn test_all(longest: usize, limits: &[Limit]) -> Result<(), Refusal> {
+    for (number, limit) in limits.iter().enumerate() {
+        test(longest, limit, number)?;
+    }
+    // "the set limits nothing"
+    if limits_nothing(limits) {
+        return refuse(21, 0);
+    }
+    Ok(())
 }
 
 fn test(longest: usize, limit: &Limit, number: usize) -> Result<(), Refusal> {

@@ -43,7 +43,7 @@ fn reading() {
 fn writing() {
     let mut draw = Draw::new(192);
     let (mut set_edge, mut record_edge) = (Edge::new(4096), Edge::new(4096));
-    let mut seen = [0; 10];
+    let mut seen = [0; 22];
     for _ in 0..cases(10_000) {
         let set = if draw.one_in(3) { spoilt_set(&mut draw) } else { sets::bytes(&draw.set()) };
         let needed = HEAD + TAIL + set.len();

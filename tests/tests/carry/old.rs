@@ -3,7 +3,9 @@
 use floelinnet_tests::draw::{cases, Draw};
 use floelinnet_tests::reference::carry::{old_record, record, OLD_HELD};
 use floelinnet_tests::reference::guard::{tell, Answer, Guard, Story, FRESH, HELD};
-use floelinnet_tests::reference::limits::{allowed_limits, limits_within, width, Limit, OLD_LONGEST_WINDOW};
+use floelinnet_tests::reference::limits::{
+    allowed_limits, limits_nothing, limits_within, width, Limit, OLD_LONGEST_WINDOW,
+};
 use floelinnet_tests::reference::sets;
 use floelinnet_tests::{expected, floe};
 
@@ -85,7 +87,7 @@ fn as_one_never_switched_off() {
 }
 
 /// Refusal 20 for each limit with a window of more than 12 jobs, in any place of a set, and for no other. The same guard
-/// and set in a record of version 2 are taken.
+/// and set in a record of version 2 are taken. A limit that limits nothing is refused by 21, alone, in both versions.
 #[test]
 fn windows_that_reach_further_back() {
     let mut draw = Draw::new(202);
@@ -93,21 +95,24 @@ fn windows_that_reach_further_back() {
     let mut refused = 0;
     for limit in allowed_limits() {
         let place = draw.below(8);
-        let mut limits = vec![Limit { kind: 2, x: 12, k: 12 }; 8];
+        let mut limits = vec![Limit { kind: 2, x: 11, k: 12 }; 8];
         limits[place] = limit;
         for limits in [&[limit][..], &limits] {
             let set = sets::bytes(limits);
             let guard = Guard { state: 0, ..draw.guard(1) };
+            let by = |refused: u64| floe::Started { refused, at: 0, guard: floe::guard::new() };
+            let idle = limits_nothing(limits);
             let want = match width(limit) > OLD_LONGEST_WINDOW {
-                true => floe::Started { refused: 20, at: 0, guard: floe::guard::new() },
+                _ if idle => by(21),
+                true => by(20),
                 false => expected::started(Ok(without_oldest(guard))),
             };
             assert_eq!(floe::carry::read(&old_record(guard, &set), &every_pattern_walked), want, "{limits:?}");
             refused += usize::from(want.refused == 20);
             let read = floe::carry::read(&record(guard, &set), &every_pattern_walked);
-            assert_eq!(read, expected::started(Ok(guard)), "{limits:?}");
+            assert_eq!(read, if idle { by(21) } else { expected::started(Ok(guard)) }, "{limits:?}");
         }
     }
-    // 3 times 62 limits with a k of 13 to 16, and RowMiss(13) to RowMiss(16).
-    assert_eq!(refused, 2 * (3 * 62 + 4));
+    // 3 times 62 limits with a k of 13 to 16, and RowMiss(13) to RowMiss(16); alone without the 3 times 4 that limit nothing.
+    assert_eq!(refused, 2 * (3 * 62 + 4) - 3 * 4);
 }

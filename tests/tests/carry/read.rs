@@ -21,8 +21,8 @@ fn agree(record: &[u8], table: &[u8]) -> usize {
 /// AnyHit(1,2).
 const SET: &[u8] = &[0, 0, 0, 5, 1, 1, 0, 1, 2];
 const TABLE: &[u8] = &[0, 0, 0, 0x0B, 1, 0, 2, 0, 1, 0, 0, 0xFF, 0xFF, 0, 0];
-/// AnyMiss(12,12): every pattern is walked.
-const ANY_MISS: &[u8] = &[0, 0, 0, 7, 1, 0, 1, 0, 0, 0, 0];
+/// A table that is of no set: every pattern is walked.
+const ALL_WALKED: &[u8] = &[0, 0, 0, 7, 1, 0, 1, 0, 0, 0, 0];
 
 /// A record with this set, with outcomes and count as written and with this lost byte: of version 1 with eleven outcomes,
 /// else of version 2.
@@ -84,8 +84,8 @@ fn worked() {
         (of("111111111111111", NONE, 1), TABLE, Ok((0, true, 0))),
         (of("01010101010", [0, 0, 0, 0, 0, 0, 0, 1], 1), TABLE, Ok((1, true, 1))),
         // Another table than the set's. On one of sixteen states in a ring the hits before eleven outcomes are walked too.
-        (of("000000000000000", NONE, 0), ANY_MISS, Ok((0, false, 0))),
-        (of("00000000000", NONE, 0), ANY_MISS, Ok((0, false, 0))),
+        (of("000000000000000", NONE, 0), ALL_WALKED, Ok((0, false, 0))),
+        (of("00000000000", NONE, 0), ALL_WALKED, Ok((0, false, 0))),
         (of("111111111111111", NONE, 0), &ring, Ok((15, false, 0))),
         (of("11111111111", NONE, 0), &ring, Ok((15, false, 0))),
         // 18: other versions, lengths and length fields.
@@ -114,6 +114,9 @@ fn worked() {
         (record(&SET[..8], "11111111111", NONE, 0), TABLE, Err((1, 0))),
         (record(&[0, 0, 0, 8, 1, 2, 0, 1, 2, 0, 3, 2], "111111111111111", NONE, 0), TABLE, Err((7, 1))),
         (record(&[0, 0, 0, 8, 1, 2, 0, 1, 16, 0, 1, 17], "11111111111", NONE, 0), TABLE, Err((6, 1))),
+        // Limits that limit nothing: 21 comes before a window of 13 jobs is looked at.
+        (record(&[0, 0, 0, 5, 1, 1, 2, 12, 12], "111111111111111", NONE, 0), TABLE, Err((21, 0))),
+        (record(&[0, 0, 0, 5, 1, 1, 1, 0, 13], "11111111111", NONE, 0), TABLE, Err((21, 0))),
         // A window of 13 jobs.
         (record(&[0, 0, 0, 5, 1, 1, 0, 1, 13], "111111111111111", NONE, 0), TABLE, Ok((0, false, 0))),
         (record(&[0, 0, 0, 5, 1, 1, 0, 1, 13], "11111111111", NONE, 0), TABLE, Err((20, 0))),
@@ -214,9 +217,9 @@ fn every_byte_changed() {
     assert_eq!(seen[13], SETS * (HELD + OLD_HELD) * 254);
 }
 
-/// Faults of the set in a record, one for each of 1 to 7, and the value beside each; the last, a window of 13 jobs, is one
-/// in a record of version 1 alone.
-const SETS: [(&[u8], u64, u64); 9] = [
+/// Faults of the set in a record, one for each of 1 to 7 and of 21, and the value beside each; the last, a window of 13 jobs,
+/// is one in a record of version 1 alone.
+const SETS: [(&[u8], u64, u64); 11] = [
     (&[0, 0, 0, 8, 1, 2, 0, 1, 2, 3, 2, 0], 0, 0),
     (&[0, 0, 0, 9, 1, 2, 0, 1, 2, 3, 2, 0], 1, 0),
     (&[0, 0, 0, 8, 2, 2, 0, 1, 2, 3, 2, 0], 2, 0),
@@ -225,6 +228,8 @@ const SETS: [(&[u8], u64, u64); 9] = [
     (&[0, 0, 0, 8, 1, 2, 0, 1, 13, 4, 2, 0], 5, 1),
     (&[0, 0, 0, 8, 1, 2, 0, 1, 13, 3, 2, 1], 6, 1),
     (&[0, 0, 0, 8, 1, 2, 0, 1, 13, 3, 0, 0], 7, 1),
+    (&[0, 0, 0, 8, 1, 2, 0, 0, 13, 2, 3, 2], 7, 1),
+    (&[0, 0, 0, 8, 1, 2, 0, 0, 13, 2, 2, 2], 21, 0),
     (&[0, 0, 0, 8, 1, 2, 0, 1, 2, 3, 13, 0], 20, 0),
 ];
 
@@ -252,7 +257,7 @@ fn every_choice_of_faults(outcomes: [(&str, u64, u64); 4]) -> [usize; 26] {
                         head(&mut record);
                         let faults = [
                             (number > 0, 18, 0),
-                            ((1..=7).contains(&set_fault), set_fault, limit),
+                            (![0, 20].contains(&set_fault), set_fault, limit),
                             (set_fault == 20 && outcomes.len() == OLD_HELD, 20, 0),
                             (outcomes_fault == 13, 13, place),
                             (lost > 1, 19, 0),
@@ -287,7 +292,7 @@ fn every_choice_of_faults_in_both_versions() {
         ("30011111112", 13, 0),
     ]);
     for (seen, with_20) in [(new, 0), (old, 20)] {
-        let numbers = [0, 1, 2, 3, 4, 5, 6, 7, 10, 11, 12, 13, 18, 19, with_20, 25];
+        let numbers = [0, 1, 2, 3, 4, 5, 6, 7, 10, 11, 12, 13, 18, 19, with_20, 21, 25];
         assert!(numbers.iter().all(|&number| seen[number] > 0), "{seen:?}");
     }
     assert_eq!(new[20], 0);
@@ -306,7 +311,7 @@ fn spoilt_records() {
         }
         seen[agree(&record, &table)] += 1;
     }
-    let numbers = [0, 1, 2, 3, 4, 5, 6, 7, 10, 11, 12, 13, 18, 19, 20, 25];
+    let numbers = [0, 1, 2, 3, 4, 5, 6, 7, 10, 11, 12, 13, 18, 19, 20, 21, 25];
     assert!(numbers.iter().all(|&number| seen[number] > 100), "{seen:?}");
 }
 
@@ -346,7 +351,7 @@ fn all_outcomes() {
                 let newest = guard.outcomes.iter_mut().rev().take(held);
                 newest.enumerate().for_each(|(place, hit)| *hit = number >> place & 1 == 1);
                 let record = record(guard, &some.set);
-                for (place, table) in [ANY_MISS, &some.table, &partners.table].into_iter().enumerate() {
+                for (place, table) in [ALL_WALKED, &some.table, &partners.table].into_iter().enumerate() {
                     walked[place] += usize::from(agree(&record, table) == 0);
                 }
             }

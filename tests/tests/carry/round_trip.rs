@@ -6,7 +6,7 @@ use floelinnet_tests::draw::{cases, Draw};
 use floelinnet_tests::floe;
 use floelinnet_tests::reference::carry::TAIL;
 use floelinnet_tests::reference::guard::HELD;
-use floelinnet_tests::reference::limits::{allowed_limits, Limit, LONGEST_WINDOW, OLD_LONGEST_WINDOW};
+use floelinnet_tests::reference::limits::{accepted_limits, Limit, LONGEST_WINDOW, OLD_LONGEST_WINDOW};
 use floelinnet_tests::reference::table::{LONGEST_TABLE, WORK_ENTRIES};
 use floelinnet_tests::reference::{patterns_in_order, sets};
 
@@ -75,7 +75,7 @@ fn every_short_pattern() {
 #[test]
 fn long_stories() {
     let mut draw = Draw::new(171);
-    let alone = allowed_limits().into_iter().map(|limit| vec![limit]);
+    let alone = accepted_limits().into_iter().map(|limit| vec![limit]);
     let mut lost = 0;
     for limits in alone.chain((0..cases(60)).map(|_| draw.set())).collect::<Vec<_>>() {
         let set = sets::bytes(&limits);

@@ -3,7 +3,7 @@
 use floelinnet_tests::damage::spoilt_set;
 use floelinnet_tests::draw::{cases, Draw};
 use floelinnet_tests::reference::guard::{Guard, FRESH, HELD};
-use floelinnet_tests::reference::limits::allowed_limits;
+use floelinnet_tests::reference::limits::{allowed_limits, limits_nothing};
 use floelinnet_tests::reference::{carry, sets};
 use floelinnet_tests::{expected, floe};
 
@@ -53,7 +53,7 @@ fn worked() {
 fn every_room() {
     let mut draw = Draw::new(151);
     for count in 1..=8 {
-        let limits: Vec<_> = (0..count).map(|_| draw.limit()).collect();
+        let limits: Vec<_> = (0..count).map(|_| draw.mild_limit()).collect();
         let set = sets::bytes(&limits);
         for room in 0..=64 {
             let want = if room < 29 + 6 + 3 * count { 9 } else { 0 };
@@ -69,7 +69,8 @@ fn every_limit_alone() {
     let mut draw = Draw::new(152);
     for limit in allowed_limits() {
         let guard = draw.guard(6);
-        assert_eq!(agree(&mut draw, guard, &sets::bytes(&[limit]), 38), 0);
+        let want = if limits_nothing(&[limit]) { 21 } else { 0 };
+        assert_eq!(agree(&mut draw, guard, &sets::bytes(&[limit]), 38), want);
     }
 }
 
@@ -96,11 +97,11 @@ fn every_field_of_the_guard() {
     }
 }
 
-/// Any guard, any set, any room: 1 to 7 before 9, and a refusal writes nothing.
+/// Any guard, any set, any room: 1 to 7 and 21 before 9, and a refusal writes nothing.
 #[test]
 fn any_guard_any_set_any_room() {
     let mut draw = Draw::new(154);
-    let mut seen = [0; 10];
+    let mut seen = [0; 22];
     for _ in 0..cases(100_000) {
         let set = if draw.one_in(3) { sets::bytes(&draw.set()) } else { spoilt_set(&mut draw) };
         let needed = 29 + set.len();
@@ -108,5 +109,5 @@ fn any_guard_any_set_any_room() {
         let guard = draw.guard(6);
         seen[agree(&mut draw, guard, &set, room)] += 1;
     }
-    assert!([0, 1, 2, 3, 4, 5, 6, 7, 9].iter().all(|&number| seen[number] > 1000), "{seen:?}");
+    assert!([0, 1, 2, 3, 4, 5, 6, 7, 9, 21].iter().all(|&number| seen[number] > 1000), "{seen:?}");
 }

@@ -1,11 +1,11 @@
-//! floe_log_judge: "Judging tests 1 to 7, 15, 16, and else equals judging the outcomes it holds."
+//! floe_log_judge: "as reading a set; then 15, 16", and else "what the verdict on the outcomes that the log holds is".
 
 use std::fs::{read, read_dir};
 use std::path::Path;
 
 use floelinnet_tests::damage::{spoilt_log, spoilt_set};
 use floelinnet_tests::draw::{cases, Draw};
-use floelinnet_tests::reference::limits::{allowed_limits, Limit};
+use floelinnet_tests::reference::limits::{accepted_limits, Limit};
 use floelinnet_tests::reference::{night_log, patterns_in_order, sets};
 use floelinnet_tests::{expected, floe};
 
@@ -83,7 +83,7 @@ fn very_long_logs() {
 /// "The empty pattern is kept by every set."
 #[test]
 fn empty_logs() {
-    for limit in allowed_limits() {
+    for limit in accepted_limits() {
         let verdict = floe::log::judge(&sets::bytes(&[limit]), &[0, 0, 0, 5, 1, 0, 0, 0, 0]);
         assert_eq!(verdict, floe::Verdict { kept: 1, ..Default::default() }, "{limit:?}");
     }
@@ -107,10 +107,10 @@ fn windows() {
     }
 }
 
-/// A set for each of 1 to 7 and one that is allowed, with a log refused by 15, by 16, by both, and by neither.
+/// A set for each of 1 to 7 and 21 and one that is accepted, with a log refused by 15, by 16, by both, and by neither.
 #[test]
 fn order_of_the_tests() {
-    let sets: [(&[u8], usize, u64); 9] = [
+    let sets: [(&[u8], usize, u64); 10] = [
         (&[], 1, 0),
         (&[0, 0, 0, 6, 1, 1, 0, 1, 2], 1, 0),
         (&[0, 0, 0, 5, 2, 1, 0, 1, 2], 2, 0),
@@ -119,6 +119,7 @@ fn order_of_the_tests() {
         (&[0, 0, 0, 8, 1, 2, 0, 1, 2, 4, 1, 2], 5, 1),
         (&[0, 0, 0, 8, 1, 2, 0, 1, 2, 1, 1, 17], 6, 1),
         (&[0, 0, 0, 8, 1, 2, 0, 1, 2, 3, 0, 0], 7, 1),
+        (&[0, 0, 0, 8, 1, 2, 0, 0, 2, 2, 5, 5], 21, 0),
         (&[0, 0, 0, 5, 1, 1, 0, 1, 1], 0, 0),
     ];
     let logs: [(&[u8], usize); 5] = [
@@ -136,19 +137,19 @@ fn order_of_the_tests() {
     }
     // AnyHit(1,1) loses 010 at its first job, and keeps 111.
     let lost = floe::Verdict { job: 1, first: 1, ..Default::default() };
-    assert_eq!(floe::log::judge(sets[8].0, logs[3].0), lost);
-    assert_eq!(floe::log::judge(sets[8].0, logs[4].0).kept, 1);
+    assert_eq!(floe::log::judge(sets[9].0, logs[3].0), lost);
+    assert_eq!(floe::log::judge(sets[9].0, logs[4].0).kept, 1);
 }
 
 #[test]
 fn faults_in_the_set_and_in_the_log() {
     let mut draw = Draw::new(134);
-    let mut seen = [0; 17];
+    let mut seen = [0; 22];
     for _ in 0..cases(60_000) {
         let set = if draw.one_in(2) { spoilt_set(&mut draw) } else { sets::bytes(&draw.set()) };
         seen[agree(&set, &spoilt_log(&mut draw))] += 1;
     }
-    assert!([0, 1, 2, 3, 4, 5, 6, 7, 15, 16].iter().all(|&number| seen[number] > 100), "{seen:?}");
+    assert!([0, 1, 2, 3, 4, 5, 6, 7, 15, 16, 21].iter().all(|&number| seen[number] > 100), "{seen:?}");
 }
 
 /// The stored visits of logs/ under each file of sets/.
@@ -162,7 +163,7 @@ fn every_file_of_logs() {
             .map(|path| read(path).unwrap())
             .collect()
     };
-    let mut seen = [0; 17];
+    let mut seen = [0; 22];
     for log in files("logs", "log") {
         assert_eq!(night_log::open(&log), Ok(()), "{log:02X?}");
         for set in files("sets", "limits") {
