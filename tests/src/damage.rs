@@ -42,7 +42,7 @@ pub fn mend_length(bytes: &mut [u8]) {
 
 /// A set in which each of the faults 1 to 7 and 21 is present by its own chance, so that the order of the tests shows.
 pub fn faulty_set(draw: &mut Draw) -> Vec<u8> {
-    let mut limits = if draw.one_in(4) { draw.idle_set() } else { draw.set() };
+    let mut limits = if draw.one_in(3) { draw.idle_set() } else { draw.set() };
     for limit in &mut limits {
         if draw.one_in(8) {
             limit.kind = draw.of(&[4, 5, 128, 255]);

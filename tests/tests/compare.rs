@@ -7,7 +7,7 @@ use floelinnet_tests::draw::{cases, Draw};
 use floelinnet_tests::pages::pages;
 use floelinnet_tests::reference::compare::{between_tables, between_within, read_both, Between};
 use floelinnet_tests::reference::limits::{
-    accepted_limits, limits_within, width, Limit, LONGEST_WINDOW, OLD_LONGEST_WINDOW,
+    accepted_limits, limits_nothing, limits_within, width, Limit, LONGEST_WINDOW, OLD_LONGEST_WINDOW,
 };
 use floelinnet_tests::reference::sets;
 use floelinnet_tests::reference::table::{states, State};
@@ -67,6 +67,10 @@ fn pair(draw: &mut Draw, longest: usize) -> (Vec<Limit>, Vec<Limit>) {
         1 => a[..1 + draw.below(a.len())].to_vec(),
         _ => draw.neighbour_within(longest, &a),
     };
+    // Of a set that isn't refused a part may be.
+    if limits_nothing(&b) {
+        return pair(draw, longest);
+    }
     if draw.one_in(2) {
         (a, b)
     } else {

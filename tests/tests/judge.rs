@@ -99,7 +99,7 @@ fn surviving(draw: &mut Draw, limits: &[Limit], jobs: usize, rarity: usize) -> V
 fn random_sets_on_longer_patterns() {
     let mut draw = Draw::new(12);
     let (mut kept, mut lost_late) = (0, 0);
-    for _ in 0..cases(2_500) {
+    for _ in 0..cases(3_000) {
         let limits = draw.set();
         let set = sets::bytes(&limits);
         let jobs = 13 + draw.below(48);

@@ -150,17 +150,23 @@ fn every_file_of_sets() {
 }
 
 /// examples/table.rs prints what the program prints, by the library, and also the tables of the sets whose windows are too
-/// long for the program.
+/// long for the program. What the library refuses it says in words, by the number.
 #[test]
 fn the_example_of_the_library() {
     for path in files_of_sets() {
         let mut cargo = Command::new(env!("CARGO"));
         cargo.args(["run", "--release", "--offline", "--quiet", "--example", "table"]).arg(&path).current_dir(ROOT);
         let output = cargo.output().unwrap();
-        assert!(output.status.success() && output.stderr.is_empty(), "{output:?}");
-        let lines = String::from_utf8(output.stdout).unwrap();
+        let [lines, said] = [&output.stdout, &output.stderr].map(|said| String::from_utf8(said.clone()).unwrap());
         let set = read(&path).unwrap();
-        assert_eq!(lines, text(sets::read(&set)), "{path:?}");
+        let answer = sets::read(&set);
+        assert_eq!(output.status.success(), answer.is_ok(), "{output:?}");
+        if let Err(refusal) = answer {
+            assert!(lines.is_empty() && said.contains(&format!(": refusal {}: ", refusal.number)), "{output:?}");
+            continue;
+        }
+        assert!(said.is_empty(), "{output:?}");
+        assert_eq!(lines, text(answer), "{path:?}");
         assert!(judged(&set).is_err() || lines == printed(&set), "{path:?}");
     }
 }

@@ -80,7 +80,7 @@ fn damaged_sets() {
     let mut draw = Draw::new(2);
     let mut seen = [0; 22];
     for _ in 0..cases(300_000) {
-        let mut set = sets::bytes(&draw.set());
+        let mut set = sets::bytes(&if draw.one_in(8) { draw.idle_set() } else { draw.set() });
         damage(&mut draw, &mut set);
         seen[agree(&set)] += 1;
     }

@@ -101,6 +101,9 @@ module _ (w : ℕ) (s : LimitSet) where
   pub memory-allowed : first (memoryRows w s) ≡ passed → SetAllowed w s
   memory-allowed e = let (a, b) = passed-first _ _ e in allowed-of (within 8 (s .count) a) b
 
+  pub memory-something : first (memoryRows w s) ≡ passed → LimitsNothing s → ⊥
+  memory-something e = something-of (passed-first _ _ e .1)
+
 -- what the head of accepted bytes says
 pub record Head (b : List ℕ) : Type 0 where
   pub whole : length b ≡ 6 + 3 * countOf b

@@ -15,9 +15,9 @@ use Rattle.meaning.specs.declared.Limit.{Limit}
 use Rattle.meaning.specs.declared.LimitSet.{LimitSet}
 use Rattle.meaning.specs.Sets.{zeroLimit, limitAt, SetAllowed, LimitsNothing}
 use Rattle.sets.specs.Bytes.{countOf, limitIn, limitsIn, setWith, setOf, Tidy, bytesOfLimit, limitBytes, headBytes, bytesOf}
-use Rattle.sets.specs.Rows.{setRows}
+use Rattle.sets.specs.Rows.{setRows, memoryRows}
 use Rattle.sets.proofs.Turns.{length-in, length-bytes}
-use Rattle.sets.proofs.Accepted.{Head, accepted-head, passed-rows}
+use Rattle.sets.proofs.Accepted.{Head, accepted-head, memory-allowed, memory-something, passed-rows}
 
 -- the limits of a set that was read
 
@@ -104,10 +104,12 @@ module _ (s : LimitSet) where
       (ext-getD zeroLimit (setOf b .limits) (s .limits) (u .eight ∙ sym (t .eight)) (λ j g.
       dite (decLt j c) (λ q. limit-read b c j q ∙ limit-in j q) (λ q. past-zero b c j (omega arith) ∙ sym (t .unused j (omega arith)))))
 
-pub read-of-written : (w : ℕ) (s : LimitSet) → SetAllowed w s → (LimitsNothing s → ⊥) → Tidy s → (first (setRows w (bytesOf s)) ≡ passed) × (setOf (bytesOf s) ≡ s)
-read-of-written w s a f t =
+-- a set that writing doesn't refuse
+pub read-of-written : (w : ℕ) (s : LimitSet) → first (memoryRows w s) ≡ passed → Tidy s → (first (setRows w (bytesOf s)) ≡ passed) × (setOf (bytesOf s) ≡ s)
+read-of-written w s m t =
+    let a = memory-allowed w s m in
     let e = written-set s (a .eight-places) t in
-    (passed-rows w (bytesOf s) (written-head s (a .some-limit) (a .eight-places)) (subst (λ z. SetAllowed w z) (sym e) a) (λ n. f (subst LimitsNothing e n)), e)
+    (passed-rows w (bytesOf s) (written-head s (a .some-limit) (a .eight-places)) (subst (λ z. SetAllowed w z) (sym e) a) (λ n. memory-something w s m (subst LimitsNothing e n)), e)
 
 -- the bytes that were read, written again
 limits-back : (s : LimitSet) (b : List ℕ) (i n : ℕ) → length b ≡ 6 + 3 * (i + n) → ((j : ℕ) → i ≤ j → j < i + n → limitAt s j ≡ limitIn b j) → limitBytes s i n ≡ drop (6 + 3 * i) b

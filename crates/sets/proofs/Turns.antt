@@ -1,24 +1,23 @@
 -- What a turn of each loop does to the definition that the loop computes: of a list from limit i on, its first limit comes off, or one more is put on. Assumes nothing.
-use mathlib.Core.Path.{_≡_, refl, sym, ap, ap₂, _∙_, subst}
-use mathlib.Core.Bool.{Bool, true, false}
+use mathlib.Core.Path.{_≡_, refl, sym, ap, ap₂, _∙_}
+use mathlib.Core.Bool.{Bool, true, false, cond, _&&_}
 use mathlib.Core.List.{List, [], _∷_, _++_, append-assoc, append-nil}
 use Prim.Native.Nat.{ℕ, zero, suc, _+_, _-_, _*_, _≤_, _<_}
 use native.Mathlib.Numerals.{add-one}
 use native.Mathlib.Omega.{arith}
-use lib.Dec.{T}
 use lib.ListN.{length, replicate, set, take, drop, length-append, take-append-drop}
 use lib.Seq.{set-at, length-take-le}
 use Rattle.layout.specs.Refusal.{Row, passed, refused, first}
 use Rattle.layout.specs.Head.{faultRow}
 use Rattle.layout.proofs.Head.{fault-before, no-fault-before}
+use Rattle.layout.proofs.Rows.{passed-before}
 use Rattle.layout.proofs.Runs.{one-more, put-next}
 use Rattle.meaning.specs.declared.LimitSet.{LimitSet}
 use Rattle.meaning.specs.Sets.{zeroLimit, limitAt, ruleAt}
-use Rattle.meaning.specs.Test.{every, idle, allIdle}
-use Rattle.meaning.proofs.Decide.{and-T, T-of, T-true, not-T-false, every-at}
+use Rattle.meaning.specs.Test.{every, idle}
 use Rattle.meaning.proofs.Nothing.{nothing-tested}
 use Rattle.sets.specs.Bytes.{limitIn, limitsIn, setWith, bytesOfLimit, limitBytes}
-use Rattle.sets.specs.Rows.{limitRows, limitsRows, limitsNothing}
+use Rattle.sets.specs.Rows.{limitRows, limitsRows, nothingRow, testRows}
 
 module _ (w : ℕ) (s : LimitSet) (i c : ℕ) where
   abbrev later : List Row
@@ -39,22 +38,29 @@ module _ (w : ℕ) (s : LimitSet) (i c : ℕ) where
   unfolding limitsRows first
   limits-end h = let g : c - i ≡ zero = omega arith in rw g
 
--- the first i limits are idle
-module _ (s : LimitSet) (i : ℕ) where
-  abbrev idleAt : ℕ → Bool
-  idleAt j = idle (ruleAt s j)
+-- whether one limit, and those before it, are idle
+pub broken-before : (a b : Bool) → b ≡ false → false ≡ (a && b)
+broken-before true b e = sym e
+broken-before false b e = refl
 
-  abbrev pub IdleTo : Type 0
-  IdleTo = T (every i idleAt)
+pub as-this-one : (a b r : Bool) → b ≡ true → a ≡ r → r ≡ (a && b)
+as-this-one true b r e f = sym f ∙ sym e
+as-this-one false b r e f = sym f
 
-  pub idle-turn : IdleTo → idleAt i ≡ true → T (every (i + 1) idleAt)
-  idle-turn t e = subst (λ n. T (every n idleAt)) (sym (add-one i)) (and-T (idleAt i) (every i idleAt) .1 (T-of (idleAt i) e, t))
+-- whether the first i limits are
+module _ (s : LimitSet) where
+  abbrev pub idleTo : ℕ → Bool
+  idleTo i = every i (λ j. idle (ruleAt s j))
 
-  pub busy-stops : i < s .count → idleAt i ≡ false → limitsNothing s ≡ false
-  busy-stops h e = nothing-tested s ∙ not-T-false (allIdle s) (λ t. subst (λ z. T z) e (every-at (s .count) idleAt t i h))
+  pub idle-turn : (i : ℕ) (before now : Bool) → before ≡ idleTo i → now ≡ (idle (ruleAt s i) && before) → now ≡ idleTo (i + 1)
+  idle-turn i before now e f = f ∙ ap (λ b. idle (ruleAt s i) && b) e ∙ ap idleTo (sym (add-one i))
 
-  pub idle-end : i ≡ s .count → IdleTo → limitsNothing s ≡ true
-  idle-end e t = nothing-tested s ∙ T-true (allIdle s) (subst (λ n. T (every n idleAt)) e t)
+  -- past the last limit: where the rows of all limits are passed, 21 decides
+  pub tests-end : (w i : ℕ) (all : Bool) → i ≡ s .count → first (limitsRows w s 0 (s .count)) ≡ first (limitsRows w s i (s .count - i)) → all ≡ idleTo i → first (testRows w s) ≡ cond all (refused 21 0) passed
+  unfolding first
+  tests-end w i all e r f =
+      passed-before (limitsRows w s 0 (s .count)) (nothingRow s ∷ []) (r ∙ limits-end w s i (s .count) (omega arith))
+      ∙ ap (λ b. cond b (refused 21 0) passed) (nothing-tested s ∙ sym (f ∙ ap idleTo e))
 
 limits-one-more : (b : List ℕ) (i : ℕ) → limitsIn b 0 i ++ limitIn b i ∷ [] ≡ limitsIn b 0 (i + 1)
 unfolding limitsIn

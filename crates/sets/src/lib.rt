@@ -1,6 +1,7 @@
 // The bytes of a set of limits, read and written.
 // Reading refuses by 1 to 7 and then by 21; writing a set that is already in memory by 3, 5, 6, 7, 21 and then by 9.
 ghost use mathlib.Core.Path.{_≡_};
+ghost use mathlib.Core.Bool.{_&&_};
 ghost use Prim.Native.Nat.{ℕ, _+_, _*_, _≤_};
 ghost use lib.ListN.{length};
 ghost use Rattle.layout.specs.Refusal.{first};
@@ -8,7 +9,7 @@ ghost use Rattle.layout.specs.Head.{faultRow};
 ghost use Rattle.meaning.specs.Longest.{longest};
 ghost use Rattle.meaning.specs.Limit.{ruleOf};
 ghost use Rattle.meaning.specs.Test.{idle};
-ghost use Rattle.sets.specs.Rows.{limitRows, limitsNothing, testRows, headRows};
+ghost use Rattle.sets.specs.Rows.{limitRows, testRows, headRows};
 ghost use Rattle.sets.specs.Bytes.{setOf, countOf};
 ghost use Rattle.sets.specs.Read.{says, refusedRead, ReadAs};
 
@@ -63,13 +64,16 @@ fn fault(limit: Limit, widest: u8) -> u8
     0
 }
 
-// Whether a limit with allowed numbers holds in every window, whatever its outcomes.
-fn is_idle(limit: Limit) -> bool
-    ensures { λ r. ⌜ r ≡ idle (ruleOf limit) ⌝ }
+// Whether a limit with allowed numbers can't be broken, and those before it can't.
+fn still_idle(before: bool, limit: Limit) -> bool
+    ensures { λ r. ⌜ r ≡ (idle (ruleOf limit) && before) ⌝ }
 {
     let kind = limit.kind;
     let x = limit.x;
     let k = limit.k;
+    if !before {
+        return false;
+    }
     if kind < 2 {
         return x == 0;
     }
@@ -79,29 +83,13 @@ fn is_idle(limit: Limit) -> bool
     false
 }
 
-// Whether every pattern is kept: no limit of the set can be broken.
-fn limits_nothing(set: LimitSet) -> bool
-    requires { ⌜ set .count ≤ 8 ⌝ }
-    ensures { λ r. ⌜ r ≡ limitsNothing set ⌝ }
-{
-    let count = set.count;
-    let mut i = 0;
-    while i < count {
-        let limit = set.limits[i];
-        if !is_idle(limit) {
-            return false;
-        }
-        i += 1;
-    }
-    true
-}
-
 // RULES, What each entry tests: "limit after limit, each for 5, 6 and 7; then 21".
 fn test_limits(set: LimitSet, widest: u8) -> SetAnswer
     requires { ⌜ set .count ≤ 8 ⌝ }
     ensures { λ r. ⌜ says r ≡ first (testRows widest set) ⌝ }
 {
     let count = set.count;
+    let mut nothing = true;
     let mut i = 0;
     while i < count {
         let limit = set.limits[i];
@@ -109,9 +97,10 @@ fn test_limits(set: LimitSet, widest: u8) -> SetAnswer
         if number != 0 {
             return SetAnswer::Refused { number, at: i };
         }
+        nothing = still_idle(nothing, limit);
         i += 1;
     }
-    if limits_nothing(set) {
+    if nothing {
         return SetAnswer::Refused { number: 21, at: 0 };
     }
     SetAnswer::Accepted

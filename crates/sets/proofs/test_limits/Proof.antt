@@ -1,25 +1,25 @@
--- `sets::test_limits` meets its contract. The invariant: the rows from limit i on decide; past the last limit the row of 21 does. Assumes nothing.
-use mathlib.Core.Path.{_≡_, sym, _∙_}
-use mathlib.Core.List.{[], _∷_}
+-- `sets::test_limits` meets its contract. The invariant: the rows from limit i on decide, and `nothing` says whether the limits before it are idle; past the last limit the row of 21 decides. Assumes nothing.
+use mathlib.Core.Path.{_≡_, refl, sym, ap, _∙_}
+use mathlib.Core.Bool.{cond}
 use Prim.Native.Nat.{_-_, _≤_}
 use native.Mathlib.Nat.{sub-zero}
 use native.Mathlib.Omega.{arith}
 use borrow.Author.Needs.{needs}
-use Rattle.layout.specs.Refusal.{first}
-use Rattle.layout.proofs.Rows.{first-here, first-skip, refused-before, passed-before}
-use Rattle.sets.specs.Rows.{limitsRows, nothingRow, testRows}
-use Rattle.sets.proofs.Turns.{limits-faulty, limits-faultless, limits-end}
+use Rattle.layout.specs.Refusal.{passed, refused, first}
+use Rattle.layout.proofs.Rows.{refused-before}
+use Rattle.sets.specs.Rows.{limitsRows}
+use Rattle.sets.proofs.Turns.{limits-faulty, limits-faultless, idleTo, idle-turn, tests-end}
 use Rattle.sets.proofs.test_limits.Statement.{statement}
 use Rattle.sets.proofs.test_limits.Tie as tie
 
 abbrev Inv-loop : tie.InvT-loop
-Inv-loop widest set count i₀ i = (i ≤ set .count) × (first (limitsRows widest set 0 (set .count)) ≡ first (limitsRows widest set i (set .count - i)))
+Inv-loop widest set count nothing₀ i₀ nothing i = (i ≤ set .count) × (first (limitsRows widest set 0 (set .count)) ≡ first (limitsRows widest set i (set .count - i))) × (nothing ≡ idleTo set i)
 
 abbrev μ-loop : tie.MeasureT-loop
-μ-loop widest set count i₀ i = set .count - i
+μ-loop widest set count nothing₀ i₀ nothing i = set .count - i
 
 loop-holds : tie.Need-loop-holds Inv-loop μ-loop
-loop-holds c = (omega arith, rw sub-zero)
+loop-holds c = (omega arith, rw sub-zero, refl)
 
 mul-limit : tie.Need-mul-limit Inv-loop μ-loop
 mul-limit c = search needs
@@ -30,19 +30,15 @@ element-copy-out-limit c = search needs
 fault-requires : tie.Need-fault-requires Inv-loop μ-loop
 fault-requires c κs = search needs
 
--- the rows of all limits were passed
-at-nothing : (c : tie.After-limits-nothing Inv-loop μ-loop) → first (testRows (c .before .before .before .args .widest) (c .before .before .before .args .t1)) ≡ first (nothingRow (c .before .before .before .args .t1) ∷ [])
-at-nothing c =
-    let l = c .before .before in
-    let s = l .before .args in
-    passed-before _ _ (l .loop .inv .1 ∙ limits-end (s .widest) (s .t1) (l .loop .i) (s .t1 .count) (omega arith))
-
 returns : tie.Need-returns Inv-loop μ-loop
 returns c =
     let f = c .before .fault in
     let l = c .before .before .before .before in
     let s = l .before .args in
     sym (refused-before _ _ (l .loop .inv .1 ∙ limits-faulty (s .widest) (s .t1) (l .loop .i) (s .t1 .count) (f .result) (omega arith) (f .ensures (l .loop .i)) (c .if1 .taken)))
+
+still-idle-requires : tie.Need-still-idle-requires Inv-loop μ-loop
+still-idle-requires c κs = search needs
 
 add-i : tie.Need-add-i Inv-loop μ-loop
 add-i c = search needs
@@ -52,26 +48,26 @@ loop-less c = search needs
 
 loop-again : tie.Need-loop-again Inv-loop μ-loop
 loop-again c =
-    let f = c .before .fault in
-    let l = c .before .before .before .before in
+    let e = c .before in
+    let f = e .before .fault in
+    let l = e .before .before .before .before in
     let s = l .before .args in (
       omega arith,
-      l .loop .inv .1 ∙ limits-faultless (s .widest) (s .t1) (l .loop .i) (s .t1 .count) (f .result) (omega arith) (f .ensures (l .loop .i)) (c .if1 .left),
+      l .loop .inv .1 ∙ limits-faultless (s .widest) (s .t1) (l .loop .i) (s .t1 .count) (f .result) (omega arith) (f .ensures (l .loop .i)) (e .if1 .left),
+      idle-turn (s .t1) (l .loop .i) (l .loop .nothing) _ (l .loop .inv .2) (c .still-idle .ensures),
     )
-
-limits-nothing-requires : tie.Need-limits-nothing-requires Inv-loop μ-loop
-limits-nothing-requires c κs = search needs
 
 returns-2 : tie.Need-returns-2 Inv-loop μ-loop
 returns-2 c =
-    let n = c .before .limits-nothing in
-    sym (at-nothing (c .before) ∙ first-here 21 0 _ [] (sym (n .ensures) ∙ c .if2 .taken))
+    let l = c .before .before in
+    let s = l .before .args in
+    sym (tests-end (s .t1) (s .widest) (l .loop .i) (l .loop .nothing) (omega arith) (l .loop .inv .1) (l .loop .inv .2) ∙ ap (λ b. cond b (refused 21 0) passed) (c .if2 .taken))
 
 returns-3 : tie.Need-returns-3 Inv-loop μ-loop
-unfolding first
 returns-3 c =
-    let n = c .before .limits-nothing in
-    sym (at-nothing (c .before) ∙ first-skip 21 0 _ [] (sym (n .ensures) ∙ c .if2 .left))
+    let l = c .before .before in
+    let s = l .before .args in
+    sym (tests-end (s .t1) (s .widest) (l .loop .i) (l .loop .nothing) (omega arith) (l .loop .inv .1) (l .loop .inv .2) ∙ ap (λ b. cond b (refused 21 0) passed) (c .if2 .left))
 
 pub test-limits-spec : {M : Type 1} → statement M
 test-limits-spec =
@@ -84,9 +80,9 @@ test-limits-spec =
     element-copy-out-limit
     fault-requires
     returns
+    still-idle-requires
     add-i
     loop-less
     loop-again
-    limits-nothing-requires
     returns-2
     returns-3)
