@@ -4,7 +4,7 @@ use std::hint::black_box;
 
 use floelinnet_tests::draw::Draw;
 use floelinnet_tests::floe;
-use floelinnet_tests::reference::limits::{allowed_limits, width, Limit, LONGEST_WINDOW};
+use floelinnet_tests::reference::limits::{accepted_limits, width, Limit, LONGEST_WINDOW};
 use floelinnet_tests::reference::sets::bytes;
 
 use crate::clock::{side_by_side, use_up};
@@ -23,7 +23,7 @@ pub fn measure(figures: &mut Figures) {
         figure(figures, "compare", &with_itself(Limit { kind: 0, x: 1, k }));
     }
     let mut draw = Draw::new(81);
-    let longest = allowed_limits().into_iter().filter(|&limit| width(limit) == LONGEST_WINDOW);
+    let longest = accepted_limits().into_iter().filter(|&limit| width(limit) == LONGEST_WINDOW);
     let known = longest.map(with_itself);
     let (a, b) = slowest(
         known,

@@ -5,7 +5,7 @@ use std::hint::black_box;
 
 use floelinnet_tests::draw::Draw;
 use floelinnet_tests::floe;
-use floelinnet_tests::reference::limits::{allowed_limits, width, Limit};
+use floelinnet_tests::reference::limits::{accepted_limits, width, Limit};
 use floelinnet_tests::reference::sets::bytes;
 use floelinnet_tests::reference::table::states;
 
@@ -177,7 +177,7 @@ fn twelve_jobs(figures: &mut Figures, limit: Limit, digits: &str) {
 
 /// Of eight equal limits of window 12 with different shares of misses, and then of small changes.
 fn slowest_case() -> Case {
-    let width_12: Vec<Limit> = allowed_limits().into_iter().filter(|&limit| width(limit) == 12).collect();
+    let width_12: Vec<Limit> = accepted_limits().into_iter().filter(|&limit| width(limit) == 12).collect();
     let case = |limits: Vec<Limit>, rarity| Case { sample: kept(&limits, OUTCOMES / 50, rarity), limits, rarity };
     let equal = width_12.iter().flat_map(|&limit| (1..=3).map(move |rarity| case(vec![limit; 8], rarity)));
     let mut draw = Draw::new(92);

@@ -198,7 +198,7 @@ const BAD_STATE_2: &[u8] = &[0, 0, 0, 0x0F, 1, 0, 3, 0, 1, 0, 0, 0xFF, 0xFF, 0, 
 const BAD_STATE_1: &[u8] = &[0, 0, 0, 0x0B, 1, 0, 2, 0, 1, 0, 0, 0xFF, 0xFF, 0xFF, 0xFF];
 /// AnyHit(1,1): no miss is allowed.
 const NO_MISS: &[u8] = &[0, 0, 0, 7, 1, 0, 1, 0xFF, 0xFF, 0, 0];
-/// AnyMiss(12,12): every miss is.
+/// A table of no set: every miss is.
 const ANY_MISS: &[u8] = &[0, 0, 0, 7, 1, 0, 1, 0, 0, 0, 0];
 
 /// Worked calls: the table, the row before, the calls and what they answer, and the row after.

@@ -50,6 +50,9 @@ pub fn read(bytes: &[u8]) -> Result<Set, Refusal> {
         test(&limit, number)?;
         limits[number] = limit;
     }
+    if limits[..count].iter().all(idle) {
+        return Err((21, 0));
+    }
     Ok(Set { count, limits })
 }
 
@@ -60,6 +63,9 @@ pub fn write(set: &Set, bytes: &mut [u8]) -> Result<usize, Refusal> {
     }
     for (number, limit) in set.limits().iter().enumerate() {
         test(limit, number)?;
+    }
+    if set.limits().iter().all(idle) {
+        return Err((21, 0));
     }
     let length = 6 + 3 * set.count;
     if bytes.len() < length {
@@ -72,6 +78,15 @@ pub fn write(set: &Set, bytes: &mut [u8]) -> Result<usize, Refusal> {
         triple.copy_from_slice(&[limit.kind, limit.x, limit.k]);
     }
     Ok(length)
+}
+
+/// Whether nothing breaks the limit.
+fn idle(limit: &Limit) -> bool {
+    match limit.kind {
+        0 | 1 => limit.x == 0,
+        2 => limit.x == limit.k,
+        _ => false,
+    }
 }
 
 fn test(limit: &Limit, number: usize) -> Result<(), Refusal> {

@@ -1,9 +1,8 @@
 -- What a record of a version holds where all rows that look at the record alone are passed, and that they are passed where it holds it. And 20: no window of a set is wider than what the set is taken with, and one is where the set isn't taken. Assumes nothing.
-use mathlib.Core.Path.{_≡_, refl, sym, ap, _∙_}
+use mathlib.Core.Path.{_≡_, refl, ap, _∙_}
 use mathlib.Core.Bool.{Bool, true, false, not, true≢false}
 use mathlib.Core.List.{List}
-use Prim.Native.Nat.{ℕ, suc, _-_, _≤_, _<_}
-use native.Mathlib.Omega.{arith}
+use Prim.Native.Nat.{ℕ, suc, _-_, _≤_}
 use borrow.Author.Tests.{le-leb, leb-true, ltb-false}
 use lib.Dec.{leb}
 use lib.ListN.{length}

@@ -3,7 +3,7 @@
 use mathlib.Core.Path.{_≡_, ap, _∙_, subst}
 use mathlib.Core.Logic.{_↔_}
 use mathlib.Core.List.{List}
-use Prim.Native.Nat.{ℕ, _≤_}
+use Prim.Native.Nat.{ℕ}
 use Rattle.layout.specs.Refusal.{passed, refused, first}
 use Rattle.layout.specs.declared.WriteAnswer.{WriteAnswer}
 use Rattle.layout.specs.declared.WriteAnswer.the-variants as write

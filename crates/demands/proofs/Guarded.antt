@@ -188,15 +188,19 @@ module _ (set b : List ℕ) (t : TableOf set b) where
     pub outcomes-many : length (g .outcomes) ≡ longest - 1
     outcomes-many = ap length (led .holds) ∙ latest-length (fresh .outcomes) (led .by)
 
+  -- where a kept pattern leads and a miss loses it, no miss is allowed
+  pub miss-blocked : (q : List Bool) (s : ℕ) → walk m 0 q ≡ some s → (KeptBy (setOf set) (q ++ false ∷ []) → ⊥) → m .next s false ≡ none
+  miss-blocked q s w n = go (m .next s false) refl
+    where
+      go : (x : Option ℕ) → m .next s false ≡ x → m .next s false ≡ none
+      go none f = f
+      go (some u) f = absurd (n (made-walks-kept set b t (q ++ false ∷ []) .0 (u, walk-snoc m 0 s q false w ∙ f)))
+
   -- a guard that lost keeps the state and the outcomes from before the losing miss, whatever it is told after it
   pub lost-state : (told : List ℕ) (q r : List Bool) → heard told ≡ q ++ (false ∷ r) → KeptBy (setOf set) q → (KeptBy (setOf set) (q ++ false ∷ []) → ⊥)
       → (toldAll b fresh told .lost ≡ true) × (walk m 0 q ≡ some (toldAll b fresh told .state)) × (toldAll b fresh told .outcomes ≡ recent q (longest - 1))
   lost-state told q r e k n =
       let (s, w) = made-walks-kept set b t q .1 k in
-      let blocked = go s (m .next s false) refl w in
+      let blocked = miss-blocked q s w n in
       let g = after-told told ∙ ap (afterAll m fresh) e ∙ after-lost m 0 s (fresh .outcomes) 0 q r w blocked in
       (ap (λ z. z .lost) g, w ∙ ap {B = Option ℕ} some (sym (ap (λ z. z .state) g)), ap (λ z. z .outcomes) g ∙ sym (recent-last q (longest - 1)))
-    where
-      go : (s : ℕ) (x : Option ℕ) → m .next s false ≡ x → walk m 0 q ≡ some s → m .next s false ≡ none
-      go s none f w = f
-      go s (some u) f w = absurd (n (made-walks-kept set b t (q ++ false ∷ []) .0 (u, walk-snoc m 0 s q false w ∙ f)))

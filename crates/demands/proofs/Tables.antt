@@ -27,10 +27,12 @@ module _ (set b : List ℕ) (t : TableOf set b) where
   pub made-allowed : SetAllowed longest (setOf set)
   made-allowed = set-wider (t .widest) longest (setOf set) (t .edition) (built-allowed (t .widest) set (t .work) (t .work′) (t .table) (t .table′) (t .size) (t .built))
 
+  -- in its own edition, and in the library's
+  pub made-taken : first (setRows (t .widest) set) ≡ passed
+  made-taken = built-accepted (t .widest) set (t .work) (t .work′) (t .table) (t .table′) (t .size) (t .built)
+
   pub made-accepted : first (setRows longest set) ≡ passed
-  made-accepted =
-      let e = built-accepted (t .widest) set (t .work) (t .work′) (t .table) (t .table′) (t .size) (t .built) in
-      passed-rows longest set (accepted-head (t .widest) set e) made-allowed (accepted-something (t .widest) set e)
+  made-accepted = passed-rows longest set (accepted-head (t .widest) set made-taken) made-allowed (accepted-something (t .widest) set made-taken)
 
   pub made-canonical : Canonical canonical-machine (KeptBy (setOf set))
   made-canonical = built-canonical (t .widest) set (t .work) (t .work′) (t .table) (t .table′) (t .size) (t .built)

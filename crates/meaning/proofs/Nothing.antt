@@ -1,5 +1,5 @@
 -- A set keeps every pattern exactly when each of its limits is idle by its numbers: a limit that isn't loses as many misses as its window has jobs. So misses alone lead every other set to panic. Assumes nothing.
-use mathlib.Core.Path.{_≡_, refl, sym, ap, ap₂, _∙_, subst}
+use mathlib.Core.Path.{_≡_, refl, sym, ap, _∙_, subst}
 use mathlib.Core.Logic.{_↔_, ite, Dec·of-iff}
 use mathlib.Core.Bool.{Bool, true, false}
 use mathlib.Core.List.{List, [], _∷_, _++_}

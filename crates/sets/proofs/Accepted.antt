@@ -1,6 +1,6 @@
 -- What bytes, a set and a limit hold where all their rows are passed, and that the rows are passed where they hold it: each row is read as the test on numbers that it is. Assumes nothing.
 use mathlib.Core.Path.{_≡_, refl, sym, ap₂, _∙_, subst}
-use mathlib.Core.Logic.{dite, ite, if-pos, if-neg}
+use mathlib.Core.Logic.{dite, if-pos, if-neg}
 use mathlib.Core.Bool.{true, false, _||_, true≢false}
 use mathlib.Core.List.{List, [], _∷_}
 use Prim.Native.Nat.{ℕ, zero, suc, _+_, _-_, _*_, _≤_, _<_}
