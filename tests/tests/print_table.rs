@@ -181,7 +181,8 @@ fn every_limit_alone() {
     };
     assert_eq!(lines(Limit { kind: 0, x: 6, k: 12 }), 1 + 924);
     assert_eq!(limits_within(OLD_LONGEST_WINDOW).into_iter().map(lines).max(), Some(1 + 924));
-    let idle = allowed_limits().into_iter().filter(|&limit| limits_nothing(&[limit]) && width(limit) <= OLD_LONGEST_WINDOW);
+    let idle =
+        allowed_limits().into_iter().filter(|&limit| limits_nothing(&[limit]) && width(limit) <= OLD_LONGEST_WINDOW);
     idle.for_each(|limit| assert_eq!(agree(&sets::bytes(&[limit])), 21, "{limit:?}"));
 }
 

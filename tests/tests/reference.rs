@@ -6,7 +6,8 @@ use floelinnet_tests::reference::carry::{old_record, read, record, OLD_HELD};
 use floelinnet_tests::reference::compare::{between_tables, between_within};
 use floelinnet_tests::reference::guard::{ask, tell, Answer, Guard, Story, FRESH, HELD};
 use floelinnet_tests::reference::limits::{
-    accepted_limits, allowed_limits, holds, limits_nothing, limits_within, set_keeps, width, Limit, LONGEST_WINDOW, OLD_LONGEST_WINDOW,
+    accepted_limits, allowed_limits, holds, limits_nothing, limits_within, set_keeps, width, Limit, LONGEST_WINDOW,
+    OLD_LONGEST_WINDOW,
 };
 use floelinnet_tests::reference::table::{bytes, check, states, State};
 use floelinnet_tests::reference::verdict::{lost, Lost};
@@ -119,7 +120,8 @@ fn sets_that_limit_nothing() {
     let short = |limits: &[Limit]| limits.iter().all(|&limit| width(limit) <= OLD_LONGEST_WINDOW);
     let mut draw = Draw::new(37);
     let mut idle = 0;
-    let by_chance = (0..cases(200)).map(|_| if draw.one_in(2) { draw.idle_set() } else { vec![draw.limit(), draw.limit()] });
+    let by_chance =
+        (0..cases(200)).map(|_| if draw.one_in(2) { draw.idle_set() } else { vec![draw.limit(), draw.limit()] });
     let alone = allowed_limits().into_iter().map(|limit| vec![limit]);
     for limits in alone.chain(by_chance.collect::<Vec<_>>()).filter(|limits| short(limits)) {
         assert_eq!(limits_nothing(&limits), keeps_all(&limits), "{limits:?}");

@@ -6,8 +6,8 @@ const SET: [u8; 9] = [0, 0, 0, 5, 1, 1, 0, 1, 2];
 const LOG: [u8; 10] = [0, 0, 0, 6, 1, 0, 0, 0, 4, 0b1101_0000];
 const TABLE: [u8; 15] = [0, 0, 0, 11, 1, 0, 2, 0, 1, 0, 0, 0xFF, 0xFF, 0, 0];
 
-const LIMITS_NOTHING: &str = "the set keeps every pattern, so no warning would ever come: give at least one limit an x \
-                              that can be broken (AnyHit and RowHit at least 1, AnyMiss below its k)";
+const LIMITS_NOTHING: &str = "the set keeps every pattern, so no warning would ever come: give at least one limit an \
+                              x that can be broken (AnyHit and RowHit at least 1, AnyMiss below its k)";
 
 /// The bytes with one of them changed.
 fn with<const N: usize>(mut bytes: [u8; N], place: usize, byte: u8) -> [u8; N] {
@@ -78,7 +78,8 @@ fn of_builds() {
     );
     assert!(work.iter().all(|&entry| entry == 0) && table == [7; 14]);
     assert_eq!(build(&SET[..8], &mut work, &mut table), Err(Refused::SetLength));
-    assert_eq!(build(&with(SET, 7, 0), &mut work[1..], &mut table), Err(Refused::LimitsNothing)); // 21 before 8
+    // 21 before 8
+    assert_eq!(build(&with(SET, 7, 0), &mut work[1..], &mut table), Err(Refused::LimitsNothing));
 }
 
 #[test]

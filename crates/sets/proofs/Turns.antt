@@ -34,7 +34,7 @@ module _ (w : ℕ) (s : LimitSet) (i c : ℕ) where
     pub limits-faultless : n ≡ 0 → first (limitsRows w s i (c - i)) ≡ first later
     limits-faultless f = ap first (limits-turn h) ∙ no-fault-before _ later n i e f
 
-  pub limits-end : c ≤ i → first (limitsRows w s i (c - i)) ≡ passed
+  limits-end : c ≤ i → first (limitsRows w s i (c - i)) ≡ passed
   unfolding limitsRows first
   limits-end h = let g : c - i ≡ zero = omega arith in rw g
 
