@@ -1,4 +1,4 @@
--- What 21 is for: a set is refused by it exactly where it is refused by none of 1 to 7 and keeps every pattern. So an accepted set loses some pattern, and fewer misses than its longest window has jobs, with nothing before them, lead to panic; a table built from a set has a state that allows no miss, and a guard started there hears panic after so many misses. Assumes nothing.
+-- What 21 is for: a set is refused by it exactly where it is refused by none of 1 to 7 and keeps every pattern. So an accepted set loses some pattern, and fewer misses than the longest window has jobs, with nothing before them, lead to panic; a table built from a set has a state that allows no miss, and a guard started there hears panic after so many misses. Assumes nothing.
 use mathlib.Core.Path.{_≡_, sym, subst}
 use mathlib.Core.Logic.{_↔_, Iff·trans}
 use mathlib.Core.Option.{none}
