@@ -11,9 +11,9 @@ use floelinnet_tests::{expected, floe};
 const MARGIN: usize = 16;
 
 /// Builds in buffers full of chance numbers. "Nothing that was lent is written, with one exception. A builder that is
-/// past 8, refused by none of 1 to 7, 21 and 8, gives the first 131,072 entries of the work area back as zeros, where it builds and
-/// where it refuses by 9." Refused or not, nothing is ever written to the entries of the work area after those, "to the
-/// bytes of a table buffer after 7+4n".
+/// past 8, refused by none of 1 to 7, 21 and 8, gives the first 131,072 entries of the work area back as zeros, where it
+/// builds and where it refuses by 9." Refused or not, nothing is ever written to the entries of the work area after those,
+/// "to the bytes of a table buffer after 7+4n".
 fn agree(draw: &mut Draw, set: &[u8], work_entries: usize, room: usize) -> u64 {
     let mut work: Vec<u16> = (0..work_entries + 2 * MARGIN).map(|_| draw.number() as u16).collect();
     let mut bytes: Vec<u8> = (0..room + 2 * MARGIN).map(|_| draw.byte()).collect();
@@ -91,8 +91,8 @@ fn table_of(set: &[u8]) -> Vec<u8> {
     bytes
 }
 
-/// "fewer misses than the longest window has jobs bring such a set to panic": every table has a state that allows no miss,
-/// and misses alone lead there.
+/// "every table of a set has a state that allows no miss", and fewer misses than the longest window has jobs, with nothing
+/// before them, lead there.
 #[test]
 fn every_table_has_a_panic() {
     for limit in accepted_limits() {

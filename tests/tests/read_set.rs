@@ -62,7 +62,7 @@ fn sets_that_are_allowed() {
     }
 }
 
-/// A set of eight that limit nothing, and then with one that does, in each place: what the others are doesn't matter.
+/// Eight limits that limit nothing, and then any limit in the place of one of them: it alone decides.
 #[test]
 fn one_limit_among_idle_ones() {
     let mut draw = Draw::new(4);

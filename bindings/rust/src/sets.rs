@@ -70,7 +70,8 @@ impl fmt::Display for Limit {
     }
 }
 
-/// A set of 1 to 8 limits whose numbers are allowed, and that loses some pattern: made of [`Limit`]s by [`LimitSet::new`], or read by [`read_set`].
+/// A set of 1 to 8 limits whose numbers are allowed and that forbid something: made of [`Limit`]s by [`LimitSet::new`], or
+/// read by [`read_set`].
 #[derive(Clone, Copy, PartialEq, Eq)]
 pub struct LimitSet {
     set: raw::Set,

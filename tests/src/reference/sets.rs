@@ -33,8 +33,8 @@ pub fn read_within(longest: usize, bytes: &[u8]) -> Result<Vec<Limit>, Refusal> 
     Ok(limits)
 }
 
-/// "3; then limit after limit, each for 5, 6 and 7; then 21; then 9 with 6+3c". Of a set in memory "the records from the count on
-/// are not in use", and "nothing looks at them".
+/// "3; then limit after limit, each for 5, 6 and 7; then 21; then 9 with 6+3c". Of a set in memory "the records from the
+/// count on are not in use", and "nothing looks at them".
 pub fn write(count: u64, places: &[Limit; 8], room: usize) -> Result<Vec<u8>, Refusal> {
     // "the count of a set in memory, is 0 or more than 8"
     if count == 0 || count > 8 {

@@ -113,6 +113,6 @@ fn windows_that_reach_further_back() {
             assert_eq!(read, if idle { by(21) } else { expected::started(Ok(guard)) }, "{limits:?}");
         }
     }
-    // 3 times 62 limits with a k of 13 to 16, and RowMiss(13) to RowMiss(16); alone without the 3 times 4 that limit nothing.
+    // 3 times 62 limits with a k of 13 to 16, and RowMiss(13) to RowMiss(16). Alone 3 times 4 of them limit nothing.
     assert_eq!(refused, 2 * (3 * 62 + 4) - 3 * 4);
 }

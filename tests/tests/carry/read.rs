@@ -217,8 +217,8 @@ fn every_byte_changed() {
     assert_eq!(seen[13], SETS * (HELD + OLD_HELD) * 254);
 }
 
-/// Faults of the set in a record, one for each of 1 to 7 and of 21, and the value beside each; the last, a window of 13 jobs,
-/// is one in a record of version 1 alone.
+/// Faults of the set in a record, each of 1 to 7 and 21, and the value beside each; the last, a window of 13 jobs, is one
+/// in a record of version 1 alone.
 const SETS: [(&[u8], u64, u64); 11] = [
     (&[0, 0, 0, 8, 1, 2, 0, 1, 2, 3, 2, 0], 0, 0),
     (&[0, 0, 0, 9, 1, 2, 0, 1, 2, 3, 2, 0], 1, 0),
