@@ -1,5 +1,6 @@
 // Does one set of limits demand at least as much as another? If not, the first pattern between them.
 // Refuses by 1 to 7 and 21 for the first set, then for the second, and says which.
+#![tactic(auto)]
 ghost use Rattle.std.specs.Prelude.{◌≡◌, ◌↔◌, true, false, [], ◌∷◌, ◌++◌, suc, ◌^◌, ◌≤◌, ◌<◌};
 ghost use Rattle.meaning.specs.Longest.{longest};
 ghost use Rattle.meaning.specs.Sets.{SetAllowed, KeptBy};
@@ -9,13 +10,13 @@ ghost use Rattle.compare.specs.Splits.{outcomes_of, Splits, Scanned};
 use meaning::LimitSet;
 
 // A pattern of at most 16 jobs, one byte an outcome; places past the length are 0.
-#[derive(Drop)]
+#[derive(Clone, Copy)]
 pub struct Pattern {
     pub length: usize,
     pub outcomes: [u8; 16],
 }
 
-#[derive(Drop)]
+#[derive(Clone, Copy)]
 pub enum CompareAnswer {
     Covers,
     Between,
@@ -23,7 +24,7 @@ pub enum CompareAnswer {
 }
 
 // The pattern is the first one between the sets, or of length 0 where there is none.
-#[derive(Drop)]
+#[derive(Clone, Copy)]
 pub struct Compared {
     pub answer: CompareAnswer,
     pub pattern: Pattern,

@@ -1,5 +1,6 @@
 // Each answer of the library as a flat record, for C and Rust: what the exported functions of `floelinnet` return.
 // Every record begins with the number of the refusal, 0 for none, and what the rules return beside it.
+#![tactic(auto)]
 ghost use Rattle.std.specs.Prelude.{◌≡◌};
 ghost use Rattle.flat.specs.Flat.{flat_set, flat_written, flat_verdict, flat_comparison, flat_built, flat_checked, flat_start, flat_ask, flat_tell, flat_opened, flat_read};
 
@@ -7,7 +8,7 @@ use guard::Guard;
 use meaning::LimitSet;
 
 #[repr(C)]
-#[derive(Drop)]
+#[derive(Clone, Copy)]
 pub struct FloeSetRead {
     pub refused: u64,
     pub at: u64,
@@ -15,7 +16,7 @@ pub struct FloeSetRead {
 }
 
 #[repr(C)]
-#[derive(Drop)]
+#[derive(Clone, Copy)]
 pub struct FloeWritten {
     pub refused: u64,
     pub at: u64,
@@ -24,7 +25,7 @@ pub struct FloeWritten {
 
 // kept: 1 or 0, and 0 on a refusal. first: where to look, 0 where nothing is lost.
 #[repr(C)]
-#[derive(Drop)]
+#[derive(Clone, Copy)]
 pub struct FloeVerdict {
     pub refused: u64,
     pub at: u64,
@@ -36,7 +37,7 @@ pub struct FloeVerdict {
 
 // which: the set that is refused, 1 or 2, else 0. Places of the pattern past its length are 0.
 #[repr(C)]
-#[derive(Drop)]
+#[derive(Clone, Copy)]
 pub struct FloeComparison {
     pub refused: u64,
     pub at: u64,
@@ -47,7 +48,7 @@ pub struct FloeComparison {
 }
 
 #[repr(C)]
-#[derive(Drop)]
+#[derive(Clone, Copy)]
 pub struct FloeBuilt {
     pub refused: u64,
     pub at: u64,
@@ -55,7 +56,7 @@ pub struct FloeBuilt {
 }
 
 #[repr(C)]
-#[derive(Drop)]
+#[derive(Clone, Copy)]
 pub struct FloeChecked {
     pub refused: u64,
     pub at: u64,
@@ -63,7 +64,7 @@ pub struct FloeChecked {
 }
 
 #[repr(C)]
-#[derive(Drop)]
+#[derive(Clone, Copy)]
 pub struct FloeStarted {
     pub refused: u64,
     pub at: u64,
@@ -72,7 +73,7 @@ pub struct FloeStarted {
 
 // answer: 0 normal, 1 panic, 2 lost, 3 refused.
 #[repr(C)]
-#[derive(Drop)]
+#[derive(Clone, Copy)]
 pub struct FloeAsked {
     pub refused: u64,
     pub at: u64,
@@ -81,7 +82,7 @@ pub struct FloeAsked {
 }
 
 #[repr(C)]
-#[derive(Drop)]
+#[derive(Clone, Copy)]
 pub struct FloeTold {
     pub refused: u64,
     pub at: u64,
@@ -89,7 +90,7 @@ pub struct FloeTold {
 }
 
 #[repr(C)]
-#[derive(Drop)]
+#[derive(Clone, Copy)]
 pub struct FloeDone {
     pub refused: u64,
     pub at: u64,
@@ -97,7 +98,7 @@ pub struct FloeDone {
 
 // answer: 0 normal, 1 panic, 2 lost, 3 refused.
 #[repr(C)]
-#[derive(Drop)]
+#[derive(Clone, Copy)]
 pub struct FloeRowAsked {
     pub refused: u64,
     pub at: u64,
@@ -105,7 +106,7 @@ pub struct FloeRowAsked {
 }
 
 #[repr(C)]
-#[derive(Drop)]
+#[derive(Clone, Copy)]
 pub struct FloeLogOpened {
     pub refused: u64,
     pub at: u64,
@@ -114,7 +115,7 @@ pub struct FloeLogOpened {
 
 // answer: 0 miss, 1 hit, 2 end, 3 refused. place: where the reader then stands.
 #[repr(C)]
-#[derive(Drop)]
+#[derive(Clone, Copy)]
 pub struct FloeLogRead {
     pub refused: u64,
     pub at: u64,

@@ -1,5 +1,6 @@
 // The C boundary: each function says in a flat record what the library function behind it answers.
 // The records and what they say are `flat`'s.
+#![tactic(auto)]
 ghost use Rattle.meaning.specs.Longest.{longest};
 ghost use Rattle.sets.specs.Read.{ReadAs};
 ghost use Rattle.sets.specs.Write.{WrittenAs};

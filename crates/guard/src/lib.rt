@@ -1,6 +1,7 @@
 // A guard walks a table as outcomes are told, and says before each job whether a miss is still allowed.
 // Starting refuses by 10 to 12; ask and tell by 10, 11 and what of 12 concerns the guard's state, tell then by 13 and 17.
 // The row's calls refuse by 14 first.
+#![tactic(auto)]
 ghost use Rattle.std.specs.Prelude.{◌≡◌, false, [], ◌∷◌, ◌+◌, ◌<◌};
 ghost use Rattle.table.specs.Shared.{passed};
 ghost use Rattle.table.specs.Check.{move_by};
@@ -19,7 +20,7 @@ const MOST_TOLD: u64 = 18446744073709551615;
 // A guard goes in by value and comes back beside the answer. Its outcomes are the last ones told, oldest first, hits
 // where fewer were told; the count is of all of them.
 #[repr(C)]
-#[derive(Drop)]
+#[derive(Clone, Copy)]
 pub struct Guard {
     pub state: u16,
     pub lost: bool,
@@ -27,19 +28,19 @@ pub struct Guard {
     pub count: u64,
 }
 
-#[derive(Drop)]
+#[derive(Clone, Copy)]
 pub enum StartAnswer {
     Started,
     Refused { number: u8, at: usize },
 }
 
-#[derive(Drop)]
+#[derive(Clone, Copy)]
 pub struct Started {
     pub answer: StartAnswer,
     pub guard: Guard,
 }
 
-#[derive(Drop)]
+#[derive(Clone, Copy)]
 pub enum AskAnswer {
     Normal,
     Panic,
@@ -47,19 +48,19 @@ pub enum AskAnswer {
     Refused { number: u8, at: usize },
 }
 
-#[derive(Drop)]
+#[derive(Clone, Copy)]
 pub struct Asked {
     pub answer: AskAnswer,
     pub guard: Guard,
 }
 
-#[derive(Drop)]
+#[derive(Clone, Copy)]
 pub enum TellAnswer {
     Told,
     Refused { number: u8, at: usize },
 }
 
-#[derive(Drop)]
+#[derive(Clone, Copy)]
 pub struct Told {
     pub answer: TellAnswer,
     pub guard: Guard,

@@ -1,12 +1,14 @@
 // What every layout has in common: bytes as numbers, the head that opens it, and a writer's answer.
 // specs/ also have what every refusal has in common: rows of a table, of which the first that holds decides.
+#![tactic(auto)]
+
 ghost use Rattle.std.specs.Prelude.{◌≡◌, ◌++◌, ◌+◌, ◌≤◌, ◌<◌, length, take, drop};
 ghost use Rattle.layout.specs.Bytes.{four_at, length_field, four_bytes, eight_at, eight_bytes};
 ghost use Rattle.layout.specs.Refusal.{first};
 ghost use Rattle.layout.specs.Head.{head_rows, fault_row};
 
 // What a writer answers: the length of what it wrote, or a refusal.
-#[derive(Drop)]
+#[derive(Clone, Copy)]
 pub enum WriteAnswer {
     Written(usize),
     Refused { number: u8, at: usize },

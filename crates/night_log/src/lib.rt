@@ -1,5 +1,6 @@
 // The night log: the outcomes of a visit as they are stored, eight to a byte. Here it is read, one outcome a call.
 // Refuses by 15 for a log that isn't one, then by 16 for unused bits that aren't zero; each call tests both, in constant time.
+#![tactic(auto)]
 ghost use Rattle.std.specs.Prelude.{◌≡◌, ◌+◌, ◌*◌, ◌/◌, ◌%◌, ◌^◌, ◌≤◌, ◌<◌, length};
 ghost use Rattle.layout.specs.Refusal.{first};
 ghost use Rattle.layout.specs.Head.{fault_row};
@@ -15,13 +16,13 @@ pub use judge::judge_log;
 pub use reader::LogReader;
 pub use write::write_log;
 
-#[derive(Drop)]
+#[derive(Clone, Copy)]
 pub enum OpenAnswer {
     Opened,
     Refused { number: u8, at: usize },
 }
 
-#[derive(Drop)]
+#[derive(Clone, Copy)]
 pub enum LogAnswer {
     Miss,
     Hit,
@@ -30,7 +31,7 @@ pub enum LogAnswer {
 }
 
 // What a call of the reader gives, and the place where the reader then stands: how many outcomes were handed out.
-#[derive(Drop)]
+#[derive(Clone, Copy)]
 pub struct LogRead {
     pub answer: LogAnswer,
     pub place: usize,

@@ -5,7 +5,7 @@ ghost use Rattle.night_log.specs.Reader.{ReaderOpenedAs, NextAs};
 use super::{LogAnswer, OpenAnswer, open_log, read_log};
 
 // `opened` is what opening answered.
-#[derive(Drop)]
+#[derive(Clone, Copy)]
 pub struct LogReader<'a> {
     pub log: &'a [u8],
     pub place: usize,

@@ -1,5 +1,6 @@
 // Reads the bytes of a set of limits from standard input and prints its table, or one line for a refusal.
 // What is printed is `printing::print_input`'s, which asks for buffers of these sizes; here it is only read and written.
+#![tactic(auto)]
 fn main() {
     let mut input = [0u8; 65];
     let mut work = [0u16; 8192];

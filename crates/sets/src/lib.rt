@@ -1,5 +1,6 @@
 // The bytes of a set of limits, read and written.
 // Reading refuses by 1 to 7 and then by 21; writing a set that is already in memory by 3, 5, 6, 7, 21 and then by 9.
+#![tactic(auto)]
 ghost use Rattle.std.specs.Prelude.{◌≡◌, ◌&&◌, ℕ, ◌+◌, ◌*◌, ◌≤◌, length};
 ghost use Rattle.layout.specs.Refusal.{first};
 ghost use Rattle.layout.specs.Head.{fault_row};
@@ -15,14 +16,14 @@ mod write;
 use meaning::{Limit, LimitSet};
 pub use write::write_set;
 
-#[derive(Drop)]
+#[derive(Clone, Copy)]
 pub enum SetAnswer {
     Accepted,
     Refused { number: u8, at: usize },
 }
 
 // What reading gives: a refusal's set has count 0 and all its places zero.
-#[derive(Drop)]
+#[derive(Clone, Copy)]
 pub struct SetRead {
     pub answer: SetAnswer,
     pub set: LimitSet,

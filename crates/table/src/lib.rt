@@ -1,5 +1,6 @@
 // The bytes of a table: its check, and one state's moves for those who walk it.
 // Refuses by 10, 11 and 12, in that order.
+#![tactic(auto)]
 ghost use Rattle.std.specs.Prelude.{◌≡◌, ◌+◌, ◌*◌, ◌≤◌, ◌<◌, length};
 ghost use Rattle.layout.specs.Refusal.{first};
 ghost use Rattle.table.specs.Bytes.{pair_at, state_count};
@@ -12,21 +13,21 @@ const MOST_STATES: usize = 32768;
 // What stands for a next state on a miss that isn't allowed.
 pub const NO_MISS: u16 = 65535;
 
-#[derive(Drop)]
+#[derive(Clone, Copy)]
 pub enum TableAnswer {
     States(usize),
     Refused { number: u8, at: usize },
 }
 
 // Where a state's outcomes lead. A hit is always allowed; `miss` says nothing where a miss isn't.
-#[derive(Drop)]
+#[derive(Clone, Copy)]
 pub struct Moves {
     pub may_miss: bool,
     pub miss: u16,
     pub hit: u16,
 }
 
-#[derive(Drop)]
+#[derive(Clone, Copy)]
 pub enum Looked {
     Moves(Moves),
     Refused { number: u8, at: usize },

@@ -1,5 +1,6 @@
 // The verdict on a pattern: kept, or lost at a job with the lowest limit that breaks there and its earliest broken window.
 // Refuses by 1 to 7 and 21 for the set, then by 26 and by 13 for the whole pattern, even where it is lost earlier.
+#![tactic(auto)]
 ghost use Rattle.std.specs.Prelude.{◌≡◌, [], ◌-◌, ◌≤◌, ◌<◌, ◌^◌, length, pos, ◌-ℤ◌};
 ghost use Rattle.patterns.specs.Outcome.{outcomes};
 ghost use Rattle.meaning.specs.Longest.{longest};
@@ -14,7 +15,7 @@ use meaning::LimitSet;
 const MOST_JOBS: usize = 9223372036854775807;
 
 // `first` is the first job of the window that broke; it may lie before job 1.
-#[derive(Drop)]
+#[derive(Clone, Copy)]
 pub enum Judgement {
     Kept,
     Lost { job: u64, limit: usize, first: i64 },
@@ -22,7 +23,7 @@ pub enum Judgement {
 }
 
 // One more outcome: kept, with the history that it leaves, or lost by a limit.
-#[derive(Drop)]
+#[derive(Clone, Copy)]
 pub enum Turn {
     Kept { history: u16 },
     Lost { limit: usize },
