@@ -1,6 +1,7 @@
 // Patterns: finite lists of outcomes, oldest first, one byte an outcome. Here a pattern is tested for 13;
 // specs/ say what a byte's outcome is, which of two patterns comes first and what number a pattern writes.
 #![tactic(auto)]
+
 ghost use Rattle.std.specs.Prelude.{◌≡◌, ◌≤◌, length};
 ghost use Rattle.layout.specs.Refusal.{first};
 ghost use Rattle.patterns.specs.Outcome.{outcome_rows};

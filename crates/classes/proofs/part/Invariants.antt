@@ -1,0 +1,19 @@
+-- `classes::part`: the entries below h are parted, and those from h on are as they were. Assumes nothing.
+use mathlib.Core.Path.{◌≡◌, refl, sym, ap₂, ◌∙◌}
+use mathlib.Core.Logic.{dite}
+use Prim.Native.Nat.{ℕ, ◌-◌, ◌≤◌, ◌<◌}
+use native.Mathlib.Decide.{dec_lt}
+use native.Mathlib.Omega.{arith}
+use borrow.Author.Rules.{rules}
+use borrow.Author.Count.{below_more}
+use lib.ListN.{length, get_or, length-set}
+use lib.Seq.{get_or-set_same, get_or-set_other}
+use Rattle.classes.specs.Stage.{parted_of}
+use Rattle.classes.proofs.part.Given as goal
+
+abbrev pub invariant-loop-h : goal.invariant-loop-h
+invariant-loop-h l =
+    (l.h ≤ l.n) × (length l.work ≡ length l.initial.work) × (l.first ≡ get_or l.initial.work 0 0) × ((g : ℕ) → g < l.h → get_or l.work g 0 ≡ parted_of (get_or l.initial.work 0 0) (get_or l.initial.work g 0) l.other) × ((g : ℕ) → l.h ≤ g → get_or l.work g 0 ≡ get_or l.initial.work g 0)
+
+abbrev pub decreases-loop-h : goal.decreases-loop-h
+decreases-loop-h l = l.n - l.h

@@ -1,0 +1,61 @@
+-- `Guard::tell`: by what looking at the guard's state gives, and then by 13 and 17. Assumes nothing.
+use mathlib.Core.Path.{◌≡◌, sym, ap, ◌∙◌}
+use mathlib.Core.List.{List, [], ◌∷◌}
+use Prim.Native.Nat.{ℕ, ◌≤◌}
+use borrow.Author.Tests.{lt-ltb, le-ltb, le-leb, lt-leb}
+use lib.Dec.{leb, ltb}
+use borrow.Author.Rules.{rules}
+use Rattle.table.specs.Shared.{row, passed, first, outcome}
+use Rattle.table.specs.Bytes.{machine_of}
+use Rattle.table.specs.Rows.{look_rows}
+use Rattle.table.specs.Check.{move_by}
+use Rattle.table.proofs.Shared.{first_here, first_skip, refused_before, passed_before}
+use Rattle.table.proofs.Answers.{looked_moves, looked_refused, moves_are_next}
+use Rattle.guard.specs.declared.Guard.{Guard}
+use Rattle.guard.specs.declared.TellAnswer.{TellAnswer}
+use Rattle.guard.specs.declared.TellAnswer.TheVariants as tell
+use Rattle.guard.specs.Guard.{most_told, after_by, tell_rows, tell_says, told_when, ToldAs}
+use Rattle.guard.proofs.Guard.tell.Goals as goal
+
+module _ (b : List ℕ) (g : Guard) (byte : ℕ) where
+  -- the guard beside an answer is the one that its number calls for
+  decided : (a : TellAnswer) → first (tell_rows b g byte) ≡ tell_says a → ToldAs b g byte (record { answer = a; guard = told_when (tell_says a) (machine_of b) g (outcome byte) })
+  decided a e = record { refusal = sym e; guard = sym (ap (λ t. told_when t (machine_of b) g (outcome byte)) e) }
+
+  -- where looking was passed, 13 and then 17 are left
+  looked : first (look_rows b g.state) ≡ passed → first (tell_rows b g byte) ≡ first (row 13 (ltb 1 byte) 0 ∷ row 17 (leb most_told g.count) 0 ∷ [])
+  looked p = passed_before (look_rows b g.state) (row 13 (ltb 1 byte) 0 ∷ row 17 (leb most_told g.count) 0 ∷ []) p
+
+  heeded : first (look_rows b g.state) ≡ passed → byte ≤ 1 → first (tell_rows b g byte) ≡ first (row 17 (leb most_told g.count) 0 ∷ [])
+  heeded p h = looked p ∙ first_skip 13 0 (ltb 1 byte) (row 17 (leb most_told g.count) 0 ∷ []) (le-ltb _ _ h)
+
+pub returns-then-outcome-gt1 : goal.returns-then-outcome-gt1
+returns-then-outcome-gt1 c =
+    let a = c.args in
+    let (p, e) = looked_moves a.table.now a.self.state c.look-looked.ensures c.looked-in-Moves-1.given.1 in
+    decided a.table.now a.self a.outcome (tell.Refused 13 0)
+    (looked a.table.now a.self a.outcome p ∙ first_here 13 0 _ _ (lt-ltb _ _ c.if-outcome-gt1.true))
+
+pub returns-then-self-ge-MOST_TOLD : goal.returns-then-self-ge-MOST_TOLD
+returns-then-self-ge-MOST_TOLD c =
+    let a = c.args in
+    let (p, e) = looked_moves a.table.now a.self.state c.look-looked.ensures c.looked-in-Moves-1.given.1 in
+    decided a.table.now a.self a.outcome (tell.Refused 17 0)
+    (heeded a.table.now a.self a.outcome p c.if-outcome-gt1.false ∙ first_here 17 0 _ _ (le-leb _ _ c.if-self-ge-MOST_TOLD.true))
+
+pub returns-in-Refused : goal.returns-in-Refused
+returns-in-Refused c =
+    let a = c.args in
+    let r = looked_refused a.table.now a.self.state c.look-looked.ensures c.looked-1.given.1 in
+    decided a.table.now a.self a.outcome (tell.Refused _ _) (refused_before _ _ r)
+
+pub returns-else-self-ge-MOST_TOLD : goal.returns-else-self-ge-MOST_TOLD
+unfolding first
+returns-else-self-ge-MOST_TOLD c =
+    let a = c.args in
+    let b = a.table.now in
+    let o = outcome a.outcome in
+    let (p, e) = looked_moves b a.self.state c.look-looked.ensures c.looked-in-Moves-1.given.1 in
+    let f = c.moved-guard.ensures ∙ ap (λ m. after_by (move_by m o) a.self o) e ∙ ap (λ n. after_by n a.self o) (moves_are_next b a.self.state o) in
+    let d = decided b a.self a.outcome tell.Told (heeded b a.self a.outcome p c.if-outcome-gt1.false ∙ first_skip 17 0 (leb most_told a.self.count) [] (lt-leb _ _ c.if-self-ge-MOST_TOLD.false)) in
+    record { refusal = d.refusal; guard = f ∙ d.guard }

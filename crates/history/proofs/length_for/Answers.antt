@@ -1,0 +1,37 @@
+-- `history::length_for`: the limits passed ask for no more than the length so far. Assumes nothing.
+use mathlib.Core.Logic.{⊎_elim}
+use Prim.Native.Nat.{ℕ, suc, ◌≤◌, ◌<◌, ◌-◌}
+use native.Mathlib.Omega.{arith}
+use borrow.Author.Count.{below_more}
+use borrow.Author.Rules.{rules}
+use Rattle.meaning.specs.Longest.{longest}
+use Rattle.meaning.specs.Limit.{width}
+use Rattle.meaning.specs.Sets.{SetAllowed, rule_at}
+use Rattle.meaning.proofs.Widths.{width_allowed, set_narrower, some_window}
+use Rattle.history.proofs.length_for.Goals as goal
+
+pub loop-at-init : goal.loop-at-init
+loop-at-init c = (omega arith, (λ w a. omega (arith, some_window w c.args.t1 a)), λ j l. absurd (omega arith))
+
+pub reach-asked-requires : goal.reach-asked-requires
+reach-asked-requires c = c.requires.each c.loop-at.at c.loop-at-test.true
+
+pub loop-at-preserved : goal.loop-at-preserved
+loop-at-preserved c =
+    let l = c.loop-at in
+    let t = c.loop-at-test.true in
+    let r = c.reach-asked.ensures in
+    let narrow : (w : ℕ) → SetAllowed w c.args.t1 → width (rule_at c.args.t1 l.at) ≤ w =
+    λ w a. (width_allowed w (rule_at c.args.t1 l.at) (a.each l.at t).rule_allowed).1 in
+    ⊎_elim
+    (λ w. (omega arith, (λ v a. omega (arith, narrow v a)), below_more _ _ (λ j h. let g = l.invariant.2 j h in omega arith) (omega arith)))
+    (λ w. (omega arith, (λ v a. omega (arith, l.invariant.1 v a)), below_more _ _ (λ j h. let g = l.invariant.2 j h in omega arith) (omega arith)))
+    c.if-length-asked.branch
+
+pub returns : goal.returns
+returns c =
+    let l = c.loop-at in
+    record {
+      short = l.invariant.1;
+      enough = set_narrower longest (suc l.length) c.args.t1 c.requires (λ i h. l.invariant.2 i (omega arith));
+    }

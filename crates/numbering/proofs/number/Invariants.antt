@@ -1,0 +1,18 @@
+-- `numbering::number`: before row i the entries at earlier places are read, and after the last row all are. Assumes nothing.
+use mathlib.Core.Path.{◌≡◌, ◌∙◌, subst}
+use mathlib.Core.Bool.{true, false}
+use Prim.Native.Nat.{◌+◌, ◌-◌, ◌≤◌}
+use native.Mathlib.Omega.{arith}
+use Rattle.machines.specs.Numbering.{place}
+use Rattle.numbering.specs.Work.{Kept}
+use Rattle.numbering.specs.Rows.{Numbering}
+use Rattle.numbering.proofs.Keeping.{kept_none, kept_trans}
+use Rattle.numbering.proofs.Classes.{classed_ready}
+use Rattle.numbering.proofs.Promise.{numbered_from}
+use Rattle.numbering.proofs.number.Given as goal
+
+abbrev pub invariant-loop-i : goal.invariant-loop-i
+invariant-loop-i l = (l.i ≤ l.count) × Numbering l.n l.work l.count (place l.i false) × Kept l.n l.initial.work l.work
+
+abbrev pub decreases-loop-i : goal.decreases-loop-i
+decreases-loop-i l = l.n - l.i

@@ -1,0 +1,60 @@
+-- `sets::write::write_set` meets its contract: the rows of the set decide, and where those are passed the buffer's length does. Assumes nothing.
+use mathlib.Core.Path.{◌≡◌, refl, sym, ap, ◌∙◌}
+use mathlib.Core.List.{◌++◌}
+use Prim.Native.Nat.{◌+◌, ◌*◌}
+use native.Mathlib.Omega.{arith}
+use borrow.Author.Rules.{rules}
+use lib.ListN.{take, drop}
+use Rattle.layout.specs.Refusal.{passed, first}
+use Rattle.layout.proofs.Rows.{refused_before, passed_before, too_short, long_enough}
+use Rattle.layout.proofs.Runs.{put_next}
+use Rattle.layout.proofs.Write.{written_by}
+use Rattle.meaning.specs.Longest.{longest}
+use Rattle.meaning.specs.Sets.{SetAllowed}
+use Rattle.sets.specs.Bytes.{head_bytes, limit_bytes}
+use Rattle.sets.specs.Read.{says}
+use Rattle.sets.specs.Rows.{memory_rows}
+use Rattle.sets.proofs.Accepted.{memory_allowed}
+use Rattle.sets.proofs.write.write_set.Goals as goal
+
+-- the rows of the set were passed
+abbrev start : tie.After-enum-told → tie.Start
+start c = c.before.before.before.before
+
+at_room : (c : tie.After-enum-told) → first (memory_rows longest (start c).args.set) ≡ passed
+at_room c = sym c.before.before.test-memory.ensures ∙ ap says c.enum_told.given.1
+
+allowed : (c : tie.After-enum-told) → SetAllowed longest (start c).args.set
+allowed c = memory_allowed longest (start c).args.set (at_room c)
+
+pub returns-in-Refused : goal.returns-in-Refused
+returns-in-Refused c =
+    let s = c.args in
+    written_by _ _ _ s.out.now _ _ _ (refused_before _ _ (sym c.test_memory-answer.ensures ∙ ap says c.answer-1.given.1)) refl refl refl
+
+pub overflow_mul-size : goal.overflow_mul-size
+overflow_mul-size c = let a = allowed c in omega arith
+
+pub overflow_add-size : goal.overflow_add-size
+overflow_add-size c = let a = allowed c in omega arith
+
+pub returns-then-out-size : goal.returns-then-out-size
+returns-then-out-size c =
+    let s = (start c).args in
+    written_by _ _ _ s.out.now _ _ _ (passed_before _ _ (at_room c) ∙ too_short _ _ _ _ c.if-out-size.true) refl refl refl
+
+pub put_head-requires : goal.put_head-requires
+put_head-requires c = let a = allowed c in (omega arith, omega arith)
+
+pub put_limits-requires : goal.put_limits-requires
+put_limits-requires c = let a = allowed c in (omega arith, omega arith)
+
+pub returns : goal.returns
+returns c =
+    let s = (start c).args in
+    let n = s.set.count in
+    written_by _ _ _ s.out.now _ _ _
+    (passed_before _ _ (at_room c) ∙ long_enough _ _ _ _ c.if-out-size.false) refl refl
+    (c.put_limits.ensures
+    ∙ ap (λ o. take 6 o ++ limit_bytes s.set 0 n ++ drop (6 + 3 * n) o) c.put_head.ensures
+    ∙ put_next s.out.now (head_bytes n) (limit_bytes s.set 0 n) 6 (3 * n) refl)

@@ -1,0 +1,55 @@
+-- `table::look`: the rows of the counts decide, then that of the state, then those of its entry. Assumes nothing.
+use mathlib.Core.Path.{◌≡◌, sym, ap, ◌∙◌}
+use mathlib.Core.List.{List, ◌∷◌}
+use Prim.Native.Nat.{ℕ}
+use native.Mathlib.Omega.{arith}
+use borrow.Author.Rules.{rules}
+use borrow.Author.Tests.{le-leb, lt-leb}
+use lib.Dec.{leb}
+use Rattle.layout.specs.Refusal.{Tested, passed, row, first}
+use Rattle.layout.proofs.Rows.{first_here, first_skip, refused_before, passed_before}
+use Rattle.table.specs.Bytes.{state_count}
+use Rattle.table.specs.Rows.{count_rows, entry_rows, look_rows}
+use Rattle.table.specs.Check.{says}
+use Rattle.table.proofs.Answers.{states_passed}
+use Rattle.table.proofs.Checked.{passed_counts}
+use Rattle.table.proofs.look.Goals as goal
+
+-- the counts were passed
+abbrev bytes : tie.After-known-told2 → List ℕ
+bytes c = c.before.before.before.before.before.args.bytes.now
+
+counts : (c : tie.After-known-told2) → (first (count_rows (bytes c)) ≡ passed) × (c.before.counts2.given.0.0 ≡ state_count (bytes c))
+counts c = states_passed (bytes c) c.before.before.before.test-counts.ensures c.before.counts2.given.1
+
+-- what the rows of the state and its entry say is the answer
+rest-decides : (b : List ℕ) (s : ℕ) {t : Tested} → first (count_rows b) ≡ passed → first (row 12 (leb (state_count b) s) 0 ∷ entry_rows b s) ≡ t → t ≡ first (look_rows b s)
+rest-decides b s p e = sym (passed_before (count_rows b) (row 12 (leb (state_count b) s) 0 ∷ entry_rows b s) p ∙ e)
+
+pub returns-then-n-s : goal.returns-then-n-s
+returns-then-n-s c =
+    let (p, e) = counts c in
+    let b = bytes c in
+    let s = c.args.state in
+    record { refusal = rest-decides b s p (first_here 12 0 _ _ (le-leb (state_count b) s (omega arith))); moves = tt }
+
+pub entry_of-requires : goal.entry_of-requires
+entry_of-requires c =
+    let (p, e) = counts c in
+    let k = passed_counts (bytes c) p in
+    (e, omega arith, omega arith)
+
+pub returns-in-Refused : goal.returns-in-Refused
+returns-in-Refused c =
+    let b = c.args.bytes.now in
+    let s = c.args.state in
+    let r = sym c.test_counts-counts.ensures.0 ∙ ap says c.counts-1.given.1 in
+    record { refusal = sym (refused_before (count_rows b) (row 12 (leb (state_count b) s) 0 ∷ entry_rows b s) r); moves = tt }
+
+pub returns-else-n-s : goal.returns-else-n-s
+returns-else-n-s c =
+    let (p, e) = counts c in
+    let b = bytes c in
+    let s = c.args.state in
+    let (r, m) = c.entry_of.ensures in
+    record { refusal = r ∙ rest-decides b s p (first_skip 12 0 _ _ (lt-leb (state_count b) s (omega arith))); moves = m }
