@@ -2,6 +2,7 @@
 // A hit is always possible; whether a miss is, this crate says from the history alone, limit by limit.
 // How long a history has to be, `reach` says for a limit and `length_for` for a set, and how far back the earliest window begins that a miss breaks, `broken_reach`.
 #![tactic(auto)]
+
 ghost use Rattle.std.specs.Prelude.{◌≡◌, true, false, cond, ℕ, ◌+◌, ◌-◌, ◌%◌, ◌^◌, ◌≤◌, ◌<◌, leb};
 ghost use Rattle.meaning.specs.Longest.{longest};
 ghost use Rattle.meaning.specs.Limit.{Allowed, rule_of, width};

@@ -1,6 +1,7 @@
 // The bytes of a set of limits, read and written.
 // Reading refuses by 1 to 7 and then by 21; writing a set that is already in memory by 3, 5, 6, 7, 21 and then by 9.
 #![tactic(auto)]
+
 ghost use Rattle.std.specs.Prelude.{◌≡◌, ◌&&◌, ℕ, ◌+◌, ◌*◌, ◌≤◌, length};
 ghost use Rattle.layout.specs.Refusal.{first};
 ghost use Rattle.layout.specs.Head.{fault_row};

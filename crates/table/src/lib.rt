@@ -1,6 +1,7 @@
 // The bytes of a table: its check, and one state's moves for those who walk it.
 // Refuses by 10, 11 and 12, in that order.
 #![tactic(auto)]
+
 ghost use Rattle.std.specs.Prelude.{◌≡◌, ◌+◌, ◌*◌, ◌≤◌, ◌<◌, length};
 ghost use Rattle.layout.specs.Refusal.{first};
 ghost use Rattle.table.specs.Bytes.{pair_at, state_count};

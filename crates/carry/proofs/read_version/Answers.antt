@@ -27,11 +27,12 @@ use Rattle.carry.proofs.Parts.{hits_part, outcome_part, outcome_count}
 use Rattle.carry.proofs.Accepted.{Record, accepted_record}
 use Rattle.carry.proofs.Reading.{back_refused, back_table, back_nowhere, back_led}
 use Rattle.carry.proofs.Walking.{hits_passed, hits_outcomes, walked_lost, walked_kept}
+use Rattle.carry.proofs.read_version.Goals.{After-told-walked, In_default, In_default-answer, Start}
 use Rattle.carry.proofs.read_version.Goals as goal
 
 -- past the record's tests
-module _ (c : tie.After-enum-told) where
-  abbrev s : tie.Start
+module _ (c : In_default) where
+  abbrev s : Start
   s = c.before.before.before.before.before
 
   abbrev r : List ℕ
@@ -47,21 +48,21 @@ module _ (c : tie.After-enum-told) where
   h = s.args.held
 
   pub accepted : first (version_rows longest v h r) ≡ passed
-  accepted = sym c.before.before.test-record.ensures ∙ ap start_says c.enum_told.given.1
+  accepted = sym c.test_record-tested.ensures ∙ ap start_says c.enum_told-1.given.1
 
   pub right : Record longest v h r
   right = accepted_record longest v h r accepted
 
-module _ (c : tie.After-enum-told2) where
-  abbrev e : tie.After-enum-told
-  e = c.before.before.before
+module _ (c : In_default-answer) where
+  abbrev e : In_default
+  e = c
 
   pub checked : first (table_rows (b e)) ≡ passed
-  checked = sym c.before.before.start.ensures.refusal ∙ ap start_says c.enum-told2.given.1
+  checked = sym c.start-started.ensures.refusal ∙ ap start_says c.enum_told-in_default-answer-1.given.1
 
-module _ (c : tie.After-told2) where
-  abbrev t : tie.After-enum-told2
-  t = c.before.before.before.before.before
+module _ (c : After-told-walked) where
+  abbrev t : In_default-answer
+  t = c
 
   abbrev older : ℕ
   older = carried - h (e t)
@@ -72,11 +73,11 @@ module _ (c : tie.After-told2) where
   abbrev walked : Guard
   walked = told_all (b (e t)) fresh bytes
 
-  pub told_all : c.told2.result ≡ walked
+  pub told_all : c.told-walked.result ≡ walked
   told_all =
-      c.told2.ensures
+      c.told-walked.ensures
       ∙ ap₂ (λ g l. told_all (b (e t)) g l)
-      (c.before.before.told.ensures ∙ ap₂ (λ g l. told_all (b (e t)) g l) t.before.before.start.ensures.guard (hits_part carried (h (e t)) (s (e t)).pre))
+      (c.told-older.ensures ∙ ap₂ (λ g l. told_all (b (e t)) g l) t.start-started.ensures.guard (hits_part carried (h (e t)) (s (e t)).pre))
       (outcome_part (h (e t)) (r (e t)))
       ∙ sym (told_then (b (e t)) fresh (replicate older 1) (outcome_bytes (h (e t)) (r (e t))))
 
@@ -87,13 +88,13 @@ module _ (c : tie.After-told2) where
   all : first (outcome_rows bytes 0) ≡ passed
   all = hits_passed older 0 (outcome_bytes (h (e t)) (r (e t))) ((outcomes_passed (outcome_bytes (h (e t)) (r (e t))) 0).0 (right (e t)).outcomes)
 
-  pub led-nowhere : c.told2.result.lost ≡ true → led_to carried (h (e t)) (r (e t)) (b (e t)) ≡ none
-  led-nowhere l =
+  pub led_nowhere : c.told-walked.result.lost ≡ true → led_to carried (h (e t)) (r (e t)) (b (e t)) ≡ none
+  led_nowhere l =
       ap (walk (machine_of (b (e t))) 0) (sym (hits_outcomes older (outcome_bytes (h (e t)) (r (e t)))))
       ∙ walked_lost (b (e t)) (checked t) bytes all fresh.outcomes many (omega (arith, many)) (sym (ap (λ z. z.lost) told_all) ∙ l)
 
-  pub led : c.told2.result.lost ≡ false
-      → (led_to carried (h (e t)) (r (e t)) (b (e t)) ≡ some c.told2.result.state) × (c.told2.result.outcomes ≡ outcomes_in carried (h (e t)) (r (e t)))
+  pub led : c.told-walked.result.lost ≡ false
+      → (led_to carried (h (e t)) (r (e t)) (b (e t)) ≡ some c.told-walked.result.state) × (c.told-walked.result.outcomes ≡ outcomes_in carried (h (e t)) (r (e t)))
   led l =
       let (w, o) = (walked_kept (b (e t)) (checked t) bytes all fresh.outcomes many (omega (arith, many)) (sym (ap (λ z. z.lost) told_all) ∙ l)) in
       let os = hits_outcomes older (outcome_bytes (h (e t)) (r (e t))) in
@@ -107,38 +108,38 @@ returns-in-Refused c =
 
 pub returns-in-Refused-answer : goal.returns-in-Refused-answer
 returns-in-Refused-answer c =
-    subst (ReadInVersion longest carried (v c) (h c) (r c) (b c)) (sym c.refused-in-Refused-answer.ensures)
-    (back_table longest carried (v c) (h c) (r c) (b c) (accepted c) _ _ (sym c.start-started.ensures.refusal ∙ ap start_says c.answer-1.given.1))
+    subst (ReadInVersion longest carried (v (goal.at.returns-in-Refused-answer c).In_default) (h (goal.at.returns-in-Refused-answer c).In_default) (r (goal.at.returns-in-Refused-answer c).In_default) (b (goal.at.returns-in-Refused-answer c).In_default)) (sym c.refused-in-Refused-answer.ensures)
+    (back_table longest carried (v (goal.at.returns-in-Refused-answer c).In_default) (h (goal.at.returns-in-Refused-answer c).In_default) (r (goal.at.returns-in-Refused-answer c).In_default) (b (goal.at.returns-in-Refused-answer c).In_default) (accepted (goal.at.returns-in-Refused-answer c).In_default) _ _ (sym c.start-started.ensures.refusal ∙ ap start_says c.answer-1.given.1))
 
 pub overflow_sub-end : goal.overflow_sub-end
-overflow_sub-end c = omega (arith, (right (e c)).least)
+overflow_sub-end c = omega (arith, (right (e (goal.at.overflow_sub-end c).In_default)).least)
 
 pub MISSING-slice-bounds-told-end-2 : goal.MISSING-slice-bounds-told-end-2
-MISSING-slice-bounds-told-end-2 c = omega (arith, (right (e c)).least)
+MISSING-slice-bounds-told-end-2 c = omega (arith, (right (e (goal.at.MISSING-slice-bounds-told-end-2 c).In_default)).least)
 
 pub returns-then-walked : goal.returns-then-walked
 returns-then-walked c =
-    let i = e (t c) in
+    let i = e (t (goal.at.returns-then-walked c).In_default) in
     subst (ReadInVersion longest carried (v i) (h i) (r i) (b i)) (sym c.refused-then-walked.ensures)
-    (back_nowhere longest carried (v i) (h i) (r i) (b i) (accepted i) (checked (t c)) (led-nowhere c c.if-walked.true))
+    (back_nowhere longest carried (v i) (h i) (r i) (b i) (accepted i) (checked (t (goal.at.returns-then-walked c).In_default)) (led_nowhere (goal.at.returns-then-walked c).In_default c.if-walked.true))
 
 pub MISSING-overflow-sub-t21 : goal.MISSING-overflow-sub-t21
-MISSING-overflow-sub-t21 c = omega (arith, (right (e (t c))).least)
+MISSING-overflow-sub-t21 c = omega (arith, (right (e (t (goal.at.MISSING-overflow-sub-t21 c).In_default))).least)
 
 pub MISSING-shared-slice-read-t30 : goal.MISSING-shared-slice-read-t30
-MISSING-shared-slice-read-t30 c = omega (arith, (right (e (t c))).least)
+MISSING-shared-slice-read-t30 c = omega (arith, (right (e (t (goal.at.MISSING-shared-slice-read-t30 c).In_default))).least)
 
 pub overflow_sub-n : goal.overflow_sub-n
-overflow_sub-n c = omega (arith, (right (e (t c))).least)
+overflow_sub-n c = omega (arith, (right (e (t (goal.at.overflow_sub-n c).In_default))).least)
 
 pub eight_at-requires : goal.eight_at-requires
-eight_at-requires c = omega (arith, (right (e (t c))).least)
+eight_at-requires c = omega (arith, (right (e (t (goal.at.eight_at-requires c).In_default))).least)
 
 pub returns : goal.returns
 returns c =
-    let i = e (t c) in
-    let (w, o) = led c c.if-walked.false in
+    let i = e (t (goal.at.returns c).In_default) in
+    let (w, o) = led (goal.at.returns c).In_default c.if-walked.false in
     let to = c.told-walked.result.state in
     subst (ReadInVersion longest carried (v i) (h i) (r i) (b i))
     (ap₂ {C = Started} (λ os n. record { answer = start.Started; guard = record { state = to; lost = outcome (lost_byte (r i)); outcomes = os; count = n } }) (sym o) (sym c.eight_at.ensures))
-    (back_led longest carried (v i) (h i) (r i) (b i) (accepted i) (checked (t c)) to w)
+    (back_led longest carried (v i) (h i) (r i) (b i) (accepted i) (checked (t (goal.at.returns c).In_default)) to w)

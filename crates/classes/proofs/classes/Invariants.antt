@@ -13,6 +13,7 @@ use Rattle.classes.specs.Stage.{Stage}
 use Rattle.classes.proofs.Keeping.{within_refl, within_trans, room_for}
 use Rattle.classes.proofs.OneJob.{marks_small, stage_one}
 use Rattle.classes.proofs.Stages.{stage_end}
+use Rattle.classes.proofs.classes.Goals.{After-part, After-start, Start}
 use Rattle.classes.proofs.classes.Given as goal
 
 abbrev pub invariant-loop-i : goal.invariant-loop-i

@@ -12,7 +12,7 @@ use Rattle.classes.proofs.start.Goals as goal
 pub loop-i-init : goal.loop-i-init
 loop-i-init c =
     let e = c.mark.ensures in
-    (omega arith, room_kept c.args.n c.args.work.now _ e.within.length_stays c.requires.1, marked_first c.args.t1 c.args.n c.args.work.now _ e)
+    (omega arith, room_kept c.args.n c.args.work.now _ e.within.length_stays c.requires.1, marked_first c.args.set c.args.n c.args.work.now _ e)
 
 pub unmark-requires : goal.unmark-requires
 unmark-requires c =
@@ -24,7 +24,7 @@ loop-i-preserved c =
     let e = c.unmark.ensures in (
       omega arith,
       room_kept c.args.n w _ e.within.length_stays c.loop-i.invariant.1,
-      marked_next c.args.t1 c.args.n c.loop-i.i _ w _ c.loop-i.invariant.2 e,
+      marked_next c.args.set c.args.n c.loop-i.i _ w _ c.loop-i.invariant.2 e,
     )
 
 pub shape_of-work : goal.shape_of-work
@@ -33,4 +33,4 @@ shape_of-work c =
 
 pub returns : goal.returns
 returns c =
-    marked_all c.args.t1 c.args.n c.loop-i.i c.args.work.now _ _ (omega arith) c.mark.ensures c.loop-i.invariant.2
+    marked_all c.args.set c.args.n c.loop-i.i c.args.work.now _ _ (omega arith) c.mark.ensures c.loop-i.invariant.2

@@ -12,6 +12,7 @@ use Rattle.meaning.specs.Sets.{KeptBy}
 use Rattle.meaning.proofs.Widths.{set_wider}
 use Rattle.compare.specs.Splits.{outcomes_of}
 use Rattle.compare.proofs.Back.{WalkedBack, walked_back, all_hits_kept}
+use Rattle.compare.proofs.keeps.Goals.{At-loop-rest, In-loop-rest, Start}
 use Rattle.compare.proofs.keeps.Given as goal
 
 abbrev pub invariant-loop-rest : goal.invariant-loop-rest

@@ -7,16 +7,16 @@ use Rattle.guard.proofs.Latest.{Followed, followed_none, followed_one, followed_
 use Rattle.guard.proofs.latest_of.Goals as goal
 
 pub loop-i-init : goal.loop-i-init
-loop-i-init c = (omega arith, followed_none c.args.t1 c.args.hit)
+loop-i-init c = (omega arith, followed_none c.args.outcomes c.args.hit)
 
 pub loop-i-preserved : goal.loop-i-preserved
 loop-i-preserved c =
     let l = c.loop-i in
     let a = c.args in
-    (omega arith, followed_one a.t1 a.hit l.after l.i (omega (arith, c.well-formed.0)) l.invariant.1)
+    (omega arith, followed_one a.outcomes a.hit l.after l.i (omega (arith, c.well-formed.0)) l.invariant.1)
 
 pub returns : goal.returns
 returns c =
     let l = c.loop-i in
     let a = c.args in
-    followed_all a.t1 a.hit l.after l.i (omega (arith, c.well-formed.0)) l.invariant.1
+    followed_all a.outcomes a.hit l.after l.i (omega (arith, c.well-formed.0)) l.invariant.1

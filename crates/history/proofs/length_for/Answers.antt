@@ -11,7 +11,7 @@ use Rattle.meaning.proofs.Widths.{width_allowed, set_narrower, some_window}
 use Rattle.history.proofs.length_for.Goals as goal
 
 pub loop-at-init : goal.loop-at-init
-loop-at-init c = (omega arith, (λ w a. omega (arith, some_window w c.args.t1 a)), λ j l. absurd (omega arith))
+loop-at-init c = (omega arith, (λ w a. omega (arith, some_window w c.args.set a)), λ j l. absurd (omega arith))
 
 pub reach-asked-requires : goal.reach-asked-requires
 reach-asked-requires c = c.requires.each c.loop-at.at c.loop-at-test.true
@@ -21,8 +21,8 @@ loop-at-preserved c =
     let l = c.loop-at in
     let t = c.loop-at-test.true in
     let r = c.reach-asked.ensures in
-    let narrow : (w : ℕ) → SetAllowed w c.args.t1 → width (rule_at c.args.t1 l.at) ≤ w =
-    λ w a. (width_allowed w (rule_at c.args.t1 l.at) (a.each l.at t).rule_allowed).1 in
+    let narrow : (w : ℕ) → SetAllowed w c.args.set → width (rule_at c.args.set l.at) ≤ w =
+    λ w a. (width_allowed w (rule_at c.args.set l.at) (a.each l.at t).rule_allowed).1 in
     ⊎_elim
     (λ w. (omega arith, (λ v a. omega (arith, narrow v a)), below_more _ _ (λ j h. let g = l.invariant.2 j h in omega arith) (omega arith)))
     (λ w. (omega arith, (λ v a. omega (arith, l.invariant.1 v a)), below_more _ _ (λ j h. let g = l.invariant.2 j h in omega arith) (omega arith)))
@@ -33,5 +33,5 @@ returns c =
     let l = c.loop-at in
     record {
       short = l.invariant.1;
-      enough = set_narrower longest (suc l.length) c.args.t1 c.requires (λ i h. l.invariant.2 i (omega arith));
+      enough = set_narrower longest (suc l.length) c.args.set c.requires (λ i h. l.invariant.2 i (omega arith));
     }

@@ -10,8 +10,8 @@ use Rattle.history.specs.MayMiss.{may_miss_under}
 use Rattle.history.proofs.limit_may_miss.Goals as goal
 
 -- the definition at a kind that is known
-of-kind : (l : Limit) (h kind : ℕ) → l.kind ≡ kind → may_miss_under (rule_from kind l.x l.k) h ≡ may_miss_under (rule_of l) h
-of-kind l h kind e = ap (λ z. may_miss_under (rule_from z l.x l.k) h) (sym e)
+of_kind : (l : Limit) (h kind : ℕ) → l.kind ≡ kind → may_miss_under (rule_from kind l.x l.k) h ≡ may_miss_under (rule_of l) h
+of_kind l h kind e = ap (λ z. may_miss_under (rule_from z l.x l.k) h) (sym e)
 
 pub overflow_sub-k : goal.overflow_sub-k
 overflow_sub-k c = (allowed_numbers longest c.args.limit c.requires (omega arith)).0
@@ -21,7 +21,7 @@ enough_hits-requires c = omega (arith, allowed_numbers longest c.args.limit c.re
 
 pub returns-then-kind-eq0 : goal.returns-then-kind-eq0
 returns-then-kind-eq0 c =
-    c.enough_hits.ensures ∙ of-kind c.args.limit c.args.history 0 c.if-kind-eq0.true
+    c.enough_hits.ensures ∙ of_kind c.args.limit c.args.history 0 c.if-kind-eq0.true
 
 pub overflow_sub-k-then-kind-eq1 : goal.overflow_sub-k-then-kind-eq1
 overflow_sub-k-then-kind-eq1 c = (allowed_numbers longest c.args.limit c.requires (omega arith)).2
@@ -31,7 +31,7 @@ row_among-requires c = omega (arith, allowed_numbers longest c.args.limit c.requ
 
 pub returns-then-kind-eq1 : goal.returns-then-kind-eq1
 returns-then-kind-eq1 c =
-    c.row_among.ensures ∙ of-kind c.args.limit c.args.history 1 c.if-kind-eq1.true
+    c.row_among.ensures ∙ of_kind c.args.limit c.args.history 1 c.if-kind-eq1.true
 
 pub overflow_sub-k-then-kind-eq2 : goal.overflow_sub-k-then-kind-eq2
 overflow_sub-k-then-kind-eq2 c = (allowed_numbers longest c.args.limit c.requires (omega arith)).0
@@ -44,7 +44,7 @@ enough_hits-requires-then-kind-eq2 c = omega (arith, allowed_numbers longest c.a
 
 pub returns-then-kind-eq2 : goal.returns-then-kind-eq2
 returns-then-kind-eq2 c =
-    c.enough_hits-then-kind-eq2.ensures ∙ of-kind c.args.limit c.args.history 2 c.if-kind-eq2.true
+    c.enough_hits-then-kind-eq2.ensures ∙ of_kind c.args.limit c.args.history 2 c.if-kind-eq2.true
 
 pub overflow_sub-x : goal.overflow_sub-x
 overflow_sub-x c =
@@ -56,4 +56,4 @@ enough_hits-requires-2 c =
 
 pub returns : goal.returns
 returns c =
-    c.enough_hits-2.ensures ∙ of-kind c.args.limit c.args.history 3 (omega arith)
+    c.enough_hits-2.ensures ∙ of_kind c.args.limit c.args.history 3 (omega arith)

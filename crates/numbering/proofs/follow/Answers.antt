@@ -7,21 +7,22 @@ use Rattle.classes.specs.Area.{class_at}
 use Rattle.numbering.specs.Numbered.{class_of}
 use Rattle.numbering.specs.Rows.{Visited}
 use Rattle.numbering.proofs.Reading.{read_none, read_more}
+use Rattle.numbering.proofs.follow.Goals.{Start}
 use Rattle.numbering.proofs.follow.Goals as goal
 
-class-below : (s : tie.Start) → class_of s.args.n s.args.work.now s.args.i < s.args.n
-class-below s = s.requires.1.ordered.histories s.args.i s.requires.0
+class_below : (s : Start) → class_of s.args.n s.args.work.now s.args.i < s.args.n
+class_below s = s.requires.1.ordered.histories s.args.i s.requires.0
 
 pub overflow_cast-class : goal.overflow_cast-class
-overflow_cast-class c = omega (arith, class-below c)
+overflow_cast-class c = omega (arith, class_below (goal.at.overflow_cast-class c).Start)
 
 pub may_follow-requires : goal.may_follow-requires
 may_follow-requires c =
-    omega (arith, c.requires.1.ready.room, class-below c)
+    omega (arith, c.requires.1.ready.room, class_below (goal.at.may_follow-requires c).Start)
 
 pub push_index-requires : goal.push_index-requires
 push_index-requires c =
-    (class-below c, omega (arith, c.requires.1.ready.fits))
+    (class_below (goal.at.push_index-requires c).Start, omega (arith, c.requires.1.ready.fits))
 
 pub returns-then-may_follow : goal.returns-then-may_follow
 returns-then-may_follow c =

@@ -7,10 +7,11 @@ use lib.ListN.{length-set}
 use Rattle.classes.specs.Area.{class_at}
 use Rattle.numbering.specs.Numbered.{number_at}
 use Rattle.numbering.proofs.FirstSight.{number_below, visited_new}
+use Rattle.numbering.proofs.visit.Goals.{Start}
 use Rattle.numbering.proofs.visit.Goals as goal
 
-count-below : (s : tie.Start) → number_at s.args.n s.args.work.now (class_at s.args.work.now s.args.history) ≡ 0 → s.args.count < s.args.n
-count-below s e =
+count_below : (s : Start) → number_at s.args.n s.args.work.now (class_at s.args.work.now s.args.history) ≡ 0 → s.args.count < s.args.n
+count_below s e =
     let w = s.args.work.now in
     let h = s.args.history in
     number_below s.args.n w (class_at w h) s.args.count s.requires.1
@@ -26,7 +27,7 @@ bounds-work-n-then-work-n-eq0 c =
 
 pub bounds-work-n-then-work-n-eq0-2 : goal.bounds-work-n-then-work-n-eq0-2
 bounds-work-n-then-work-n-eq0-2 c =
-    simp length-set (omega (arith, c.requires.1.room, count-below c c.if-work-n-eq0.true))
+    simp length-set (omega (arith, c.requires.1.room, count_below (goal.at.bounds-work-n-then-work-n-eq0-2 c).Start c.if-work-n-eq0.true))
 
 pub returns-then-work-n-eq0 : goal.returns-then-work-n-eq0
 returns-then-work-n-eq0 c =

@@ -18,23 +18,23 @@ pub returns-then-number-ne0 : goal.returns-then-number-ne0
 returns-then-number-ne0 c =
     let f = c.fault-number in
     let s = c.args in
-    sym (refused_before _ _ (c.loop-i.invariant.1 ∙ limits_faulty s.widest s.t1 c.loop-i.i s.t1.count f.result (omega arith) (f.ensures c.loop-i.i) c.if-number-ne0.true))
+    sym (refused_before _ _ (c.loop-i.invariant.1 ∙ limits_faulty s.widest s.set c.loop-i.i s.set.count f.result (omega arith) (f.ensures c.loop-i.i) c.if-number-ne0.true))
 
 pub loop-i-preserved : goal.loop-i-preserved
 loop-i-preserved c =
     let f = c.fault-number in
     let s = c.args in (
       omega arith,
-      c.loop-i.invariant.1 ∙ limits_faultless s.widest s.t1 c.loop-i.i s.t1.count f.result (omega arith) (f.ensures c.loop-i.i) c.if-number-ne0.false,
-      idle_turn s.t1 c.loop-i.i c.loop-i.nothing _ c.loop-i.invariant.2 c.still_idle-nothing.ensures,
+      c.loop-i.invariant.1 ∙ limits_faultless s.widest s.set c.loop-i.i s.set.count f.result (omega arith) (f.ensures c.loop-i.i) c.if-number-ne0.false,
+      idle_turn s.set c.loop-i.i c.loop-i.nothing _ c.loop-i.invariant.2 c.still_idle-nothing.ensures,
     )
 
 pub returns-then-nothing : goal.returns-then-nothing
 returns-then-nothing c =
     let s = c.args in
-    sym (tests_end s.t1 s.widest c.loop-i.i c.loop-i.nothing (omega arith) c.loop-i.invariant.1 c.loop-i.invariant.2 ∙ ap (λ b. cond b (refused 21 0) passed) c.if-nothing.true)
+    sym (tests_end s.set s.widest c.loop-i.i c.loop-i.nothing (omega arith) c.loop-i.invariant.1 c.loop-i.invariant.2 ∙ ap (λ b. cond b (refused 21 0) passed) c.if-nothing.true)
 
 pub returns : goal.returns
 returns c =
     let s = c.args in
-    sym (tests_end s.t1 s.widest c.loop-i.i c.loop-i.nothing (omega arith) c.loop-i.invariant.1 c.loop-i.invariant.2 ∙ ap (λ b. cond b (refused 21 0) passed) c.if-nothing.false)
+    sym (tests_end s.set s.widest c.loop-i.i c.loop-i.nothing (omega arith) c.loop-i.invariant.1 c.loop-i.invariant.2 ∙ ap (λ b. cond b (refused 21 0) passed) c.if-nothing.false)

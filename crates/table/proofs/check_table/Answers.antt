@@ -11,14 +11,11 @@ use Rattle.table.specs.Rows.{count_rows, entries_rows}
 use Rattle.table.specs.Check.{says}
 use Rattle.table.proofs.Answers.{states_passed}
 use Rattle.table.proofs.Checked.{passed_counts}
+use Rattle.table.proofs.check_table.Goals.{In-States}
 use Rattle.table.proofs.check_table.Goals as goal
 
--- the counts were passed
-abbrev bytes : tie.After-known-told → List ℕ
-bytes c = c.before.before.before.before.before.args.bytes.now
-
-counts : (c : tie.After-known-told) → (first (count_rows (bytes c)) ≡ passed) × (c.before.counts.given.0.0 ≡ state_count (bytes c))
-counts c = states_passed (bytes c) c.before.before.before.test-counts.ensures c.before.counts.given.1
+counts : (c : In-States) → (first (count_rows c.args.bytes.now) ≡ passed) × (c.counts-1.given.0.0 ≡ state_count c.args.bytes.now)
+counts c = states_passed c.args.bytes.now c.test_counts-counts.ensures c.counts-1.given.1
 
 pub returns-in_default : goal.returns-in_default
 returns-in_default c =
@@ -29,14 +26,14 @@ returns-in_default c =
 
 pub test_entries-requires : goal.test_entries-requires
 test_entries-requires c =
-    let (p, e) = counts c in
-    let k = passed_counts (bytes c) p in
+    let (p, e) = counts (goal.at.test_entries-requires c).In-States in
+    let k = passed_counts c.args.bytes.now p in
     (e, omega arith)
 
 pub returns : goal.returns
 returns c =
-    let b = bytes c in
-    let (p, e) = counts c in
+    let b = c.args.bytes.now in
+    let (p, e) = counts (goal.at.returns c).In-States in
     let t = c.test_entries in
     record {
       refusal = t.ensures.0 ∙ ap (λ n. first (entries_rows b 0 n)) e ∙ sym (passed_before (count_rows b) (entries_rows b 0 (state_count b)) p);

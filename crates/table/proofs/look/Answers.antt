@@ -13,30 +13,27 @@ use Rattle.table.specs.Rows.{count_rows, entry_rows, look_rows}
 use Rattle.table.specs.Check.{says}
 use Rattle.table.proofs.Answers.{states_passed}
 use Rattle.table.proofs.Checked.{passed_counts}
+use Rattle.table.proofs.look.Goals.{In-States}
 use Rattle.table.proofs.look.Goals as goal
 
--- the counts were passed
-abbrev bytes : tie.After-known-told2 → List ℕ
-bytes c = c.before.before.before.before.before.args.bytes.now
-
-counts : (c : tie.After-known-told2) → (first (count_rows (bytes c)) ≡ passed) × (c.before.counts2.given.0.0 ≡ state_count (bytes c))
-counts c = states_passed (bytes c) c.before.before.before.test-counts.ensures c.before.counts2.given.1
+counts : (c : In-States) → (first (count_rows c.args.bytes.now) ≡ passed) × (c.counts-in-States-1.given.0.0 ≡ state_count c.args.bytes.now)
+counts c = states_passed c.args.bytes.now c.test_counts-counts.ensures c.counts-in-States-1.given.1
 
 -- what the rows of the state and its entry say is the answer
-rest-decides : (b : List ℕ) (s : ℕ) {t : Tested} → first (count_rows b) ≡ passed → first (row 12 (leb (state_count b) s) 0 ∷ entry_rows b s) ≡ t → t ≡ first (look_rows b s)
-rest-decides b s p e = sym (passed_before (count_rows b) (row 12 (leb (state_count b) s) 0 ∷ entry_rows b s) p ∙ e)
+rest_decides : (b : List ℕ) (s : ℕ) {t : Tested} → first (count_rows b) ≡ passed → first (row 12 (leb (state_count b) s) 0 ∷ entry_rows b s) ≡ t → t ≡ first (look_rows b s)
+rest_decides b s p e = sym (passed_before (count_rows b) (row 12 (leb (state_count b) s) 0 ∷ entry_rows b s) p ∙ e)
 
 pub returns-then-n-s : goal.returns-then-n-s
 returns-then-n-s c =
-    let (p, e) = counts c in
-    let b = bytes c in
+    let (p, e) = counts (goal.at.returns-then-n-s c).In-States in
+    let b = c.args.bytes.now in
     let s = c.args.state in
-    record { refusal = rest-decides b s p (first_here 12 0 _ _ (le-leb (state_count b) s (omega arith))); moves = tt }
+    record { refusal = rest_decides b s p (first_here 12 0 _ _ (le-leb (state_count b) s (omega arith))); moves = tt }
 
 pub entry_of-requires : goal.entry_of-requires
 entry_of-requires c =
-    let (p, e) = counts c in
-    let k = passed_counts (bytes c) p in
+    let (p, e) = counts (goal.at.entry_of-requires c).In-States in
+    let k = passed_counts c.args.bytes.now p in
     (e, omega arith, omega arith)
 
 pub returns-in-Refused : goal.returns-in-Refused
@@ -48,8 +45,8 @@ returns-in-Refused c =
 
 pub returns-else-n-s : goal.returns-else-n-s
 returns-else-n-s c =
-    let (p, e) = counts c in
-    let b = bytes c in
+    let (p, e) = counts (goal.at.returns-else-n-s c).In-States in
+    let b = c.args.bytes.now in
     let s = c.args.state in
     let (r, m) = c.entry_of.ensures in
-    record { refusal = r ∙ rest-decides b s p (first_skip 12 0 _ _ (lt-leb (state_count b) s (omega arith))); moves = m }
+    record { refusal = r ∙ rest_decides b s p (first_skip 12 0 _ _ (lt-leb (state_count b) s (omega arith))); moves = m }

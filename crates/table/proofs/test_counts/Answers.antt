@@ -12,49 +12,46 @@ use Rattle.layout.specs.Refusal.{Tested, row, first}
 use Rattle.layout.specs.Head.{head_rows}
 use Rattle.layout.proofs.Head.{no_fault, fault_before, no_fault_before, head_passed}
 use Rattle.table.specs.Rows.{most_states, count_rows}
+use Rattle.table.proofs.test_counts.Goals.{After-pair-n, Else-number-ne0}
 use Rattle.table.proofs.test_counts.Goals as goal
 
 ruleset tests = (lt-ltb, le-ltb, eq-eqb, ne_eqb)
 
 -- the counts over the numbers that were read
-abbrev countsOver : (rest n : ℕ) → Tested
-countsOver rest n = first (row 12 (eqb n 0 || ltb most_states n) 0 ∷ row 12 (not (eqb rest (3 + 4 * n))) 0 ∷ [])
-
-abbrev bytes : tie.After-head-fault → List ℕ
-bytes c = c.before.before.args.bytes.now
+abbrev counts_over : (rest n : ℕ) → Tested
+counts_over rest n = first (row 12 (eqb n 0 || ltb most_states n) 0 ∷ row 12 (not (eqb rest (3 + 4 * n))) 0 ∷ [])
 
 -- the head was passed
-long : (c : tie.Else1) → 7 ≤ length (bytes c.before)
-long c = (head_passed 7 _ _ _ (bytes c.before) (c.before.head-fault.ensures ∙ no_fault _ 0 c.if1.false)).0
+long : (c : Else-number-ne0) → 7 ≤ length c.args.bytes.now
+long c = (head_passed 7 _ _ _ c.args.bytes.now (c.head_fault-number.ensures ∙ no_fault _ 0 c.if-number-ne0.false)).0
 
-at_count : (c : tie.After-pair) → countsOver c.before.length-field.result c.pair.result ≡ first (count_rows (bytes c.before.before.before))
+at_count : (c : After-pair-n) → counts_over c.length_field-rest.result c.pair-n.result ≡ first (count_rows c.args.bytes.now)
 at_count c =
-    let e = c.before.before in
-    ap₂ countsOver c.before.length-field.ensures.0 c.pair.ensures.0
-    ∙ sym (no_fault_before (head_rows 7 1 10 11 (bytes e.before)) _ _ 0 e.before.head-fault.ensures e.if1.false)
+    ap₂ counts_over c.length_field-rest.ensures.0 c.pair-n.ensures.0
+    ∙ sym (no_fault_before (head_rows 7 1 10 11 c.args.bytes.now) _ _ 0 c.head_fault-number.ensures c.if-number-ne0.false)
 
 pub returns-then-number-ne0 : goal.returns-then-number-ne0
 returns-then-number-ne0 c =
-    (sym (fault_before (head_rows 7 1 10 11 (bytes c)) _ _ 0 c.head_fault-number.ensures c.if-number-ne0.true), tt)
+    (sym (fault_before (head_rows 7 1 10 11 c.args.bytes.now) _ _ 0 c.head_fault-number.ensures c.if-number-ne0.true), tt)
 
 pub length_field-rest-requires : goal.length_field-rest-requires
-length_field-rest-requires c = omega (arith, long c)
+length_field-rest-requires c = omega (arith, long (goal.at.length_field-rest-requires c).Else-number-ne0)
 
 pub pair-n-requires : goal.pair-n-requires
-pair-n-requires c = omega (arith, long c)
+pair-n-requires c = omega (arith, long (goal.at.pair-n-requires c).Else-number-ne0)
 
 pub returns-then-n-eq0 : goal.returns-then-n-eq0
 unfolding first
-returns-then-n-eq0 c = (search tests ∙ at_count c, tt)
+returns-then-n-eq0 c = (search tests ∙ at_count (goal.at.returns-then-n-eq0 c).After-pair-n, tt)
 
 pub returns-then-n-gt-MOST_STATES : goal.returns-then-n-gt-MOST_STATES
 unfolding first
-returns-then-n-gt-MOST_STATES c = (search tests ∙ at_count c, tt)
+returns-then-n-gt-MOST_STATES c = (search tests ∙ at_count (goal.at.returns-then-n-gt-MOST_STATES c).After-pair-n, tt)
 
 pub returns-then-rest-n : goal.returns-then-rest-n
 unfolding first
-returns-then-rest-n c = (search tests ∙ at_count c, tt)
+returns-then-rest-n c = (search tests ∙ at_count (goal.at.returns-then-rest-n c).After-pair-n, tt)
 
 pub returns : goal.returns
 unfolding first
-returns c = (search tests ∙ at_count c, c.pair-n.ensures.0)
+returns c = (search tests ∙ at_count (goal.at.returns c).After-pair-n, c.pair-n.ensures.0)

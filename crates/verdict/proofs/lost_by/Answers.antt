@@ -11,5 +11,5 @@ broken_reach-back-requires c = (c.requires.0.each c.args.limit c.requires.2, c.r
 
 pub first_job-requires : goal.first_job-requires
 first_job-requires c =
-    let wide = width_allowed longest (rule_at c.args.t1 c.args.limit) (c.requires.0.each c.args.limit c.requires.2).rule_allowed in
+    let wide = width_allowed longest (rule_at c.args.set c.args.limit) (c.requires.0.each c.args.limit c.requires.2).rule_allowed in
     (omega (arith, c.requires.3), omega (arith, c.broken_reach-back.ensures.within, wide.1))

@@ -13,9 +13,9 @@ use Rattle.builder.proofs.Stores.{rows_in, no_rows, row_more}
 use Rattle.builder.proofs.write.put_rows.Goals as goal
 
 -- the entry for a miss is the machine's move
-entry-miss : (n : ℕ) (w : List ℕ) (h : ℕ) (b : Bool) → may_at w h ≡ b → cond (may_at w h) (number_after w n h false - 1) no_miss ≡ entry_of (move_of w n h false)
-entry-miss n w h true e = rw e
-entry-miss n w h false e = rw e
+entry_miss : (n : ℕ) (w : List ℕ) (h : ℕ) (b : Bool) → may_at w h ≡ b → cond (may_at w h) (number_after w n h false - 1) no_miss ≡ entry_of (move_of w n h false)
+entry_miss n w h true e = rw e
+entry_miss n w h false e = rw e
 
 pub loop-i-init : goal.loop-i-init
 loop-i-init c = (omega arith, refl, no_rows _ _)
@@ -43,7 +43,7 @@ loop-i-preserved c =
     let i = c.loop-i.i in
     let w = c.args.work.now in
     let m = numbered_machine c.args.n w c.args.count in
-    let x = c.miss_entry-miss.ensures ∙ entry-miss c.args.n w (class_of c.args.n w i) (may_at w (class_of c.args.n w i)) refl in
+    let x = c.miss_entry-miss.ensures ∙ entry_miss c.args.n w (class_of c.args.n w i) (may_at w (class_of c.args.n w i)) refl in
     let y = c.hit_entry-hit.ensures in
     let out = c.loop-i.out in (
       omega arith,

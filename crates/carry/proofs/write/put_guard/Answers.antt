@@ -10,10 +10,11 @@ use Rattle.patterns.specs.Outcome.{bit}
 use Rattle.patterns.proofs.Outcomes.{cast_bit}
 use Rattle.carry.specs.Bytes.{carried}
 use Rattle.carry.proofs.Writing.{tail_written}
+use Rattle.carry.proofs.write.put_guard.Goals.{Start}
 use Rattle.carry.proofs.write.put_guard.Goals as goal
 
 -- a guard in memory holds its outcomes
-held : (s : tie.Start) → length s.args.guard.outcomes ≡ carried
+held : (s : Start) → length s.args.guard.outcomes ≡ carried
 held s = search rules
 
 pub shape_of-out : goal.shape_of-out
@@ -26,4 +27,4 @@ returns c =
     let g = c.args.guard in
     ap (set c.put_eight.new.0 (c.args.at + carried + 8)) (cast_bit g.lost)
     ∙ tail_written d c.put_outcomes.new.0 c.put_eight.new.0 (map bit g.outcomes) (eight_bytes g.count) c.args.at carried 8 (bit g.lost)
-    (omega arith) (length-map g.outcomes bit ∙ held c) refl c.put_outcomes.ensures c.put_eight.ensures
+    (omega arith) (length-map g.outcomes bit ∙ held (goal.at.returns c).Start) refl c.put_outcomes.ensures c.put_eight.ensures

@@ -16,8 +16,8 @@ loop-i-init c = (omega arith, pasted_none)
 pub loop-i-preserved : goal.loop-i-preserved
 loop-i-preserved c =
     let l = c.loop-i in
-    let os = c.args.t3 in
+    let os = c.args.outcomes in
     (omega arith, pasted_turn l.invariant.1 _ (omega arith) (omega (arith, c.well-formed.0, length-map os bit)) (cast_at os l.i))
 
 pub returns : goal.returns
-returns c = let os = c.args.t3 in pasted_all c.loop-i.invariant.1 carried (omega arith) (omega (arith, c.well-formed.0, length-map os bit))
+returns c = let os = c.args.outcomes in pasted_all c.loop-i.invariant.1 carried (omega arith) (omega (arith, c.well-formed.0, length-map os bit))

@@ -14,17 +14,14 @@ use Rattle.sets.specs.Rows.{set_rows}
 use Rattle.sets.proofs.Accepted.{Head, accepted_head}
 use Rattle.sets.proofs.Reading.{refused_rows, accepted_rows}
 use Rattle.carry.specs.Bytes.{new_version, carried, head_bytes, tail_bytes, tail_size, size_of}
+use Rattle.carry.proofs.write.write_record.Goals.{In_default}
 use Rattle.carry.proofs.write.write_record.Goals as goal
 
--- the rows of the set were passed
-abbrev start : tie.After-enum-told → tie.Start
-start c = c.before.before.before.before.before
+at_room : (c : In_default) → first (set_rows longest c.args.set.now) ≡ passed
+at_room c = let r = c.read_set-read in accepted_rows longest c.args.set.now r.result r.ensures c.enum_told-1.given.1
 
-at_room : (c : tie.After-enum-told) → first (set_rows longest (start c).args.set.now) ≡ passed
-at_room c = let r = c.before.before.read_set in accepted_rows longest (start c).args.set.now r.result r.ensures c.enum_told.given.1
-
-head : (c : tie.After-enum-told) → Head (start c).args.set.now
-head c = accepted_head longest (start c).args.set.now (at_room c)
+head : (c : In_default) → Head c.args.set.now
+head c = accepted_head longest c.args.set.now (at_room c)
 
 pub returns-in-Refused : goal.returns-in-Refused
 returns-in-Refused c =
@@ -33,20 +30,20 @@ returns-in-Refused c =
 
 pub returns-then-out-size : goal.returns-then-out-size
 returns-then-out-size c =
-    let s = (start c).args in
-    written_by _ _ _ s.out.now _ _ _ (passed_before _ _ (at_room c) ∙ too_short _ _ _ _ c.if-out-size.true) refl refl refl
+    let s = c.args in
+    written_by _ _ _ s.out.now _ _ _ (passed_before _ _ (at_room (goal.at.returns-then-out-size c).In_default) ∙ too_short _ _ _ _ c.if-out-size.true) refl refl refl
 
 pub put_set-requires : goal.put_set-requires
-put_set-requires c = let h = head c in (omega arith, omega arith)
+put_set-requires c = let h = head (goal.at.put_set-requires c).In_default in (omega arith, omega arith)
 
 pub returns : goal.returns
 returns c =
-    let s = (start c).args in
+    let s = c.args in
     let set = s.set.now in
     let n = length set in
     let whole : 5 + n + tail_size carried ≡ size_of carried set = omega arith in
     written_by _ _ _ s.out.now _ _ _
-    (passed_before _ _ (at_room c) ∙ long_enough _ _ _ _ c.if-out-size.false) refl refl
+    (passed_before _ _ (at_room (goal.at.returns c).In_default) ∙ long_enough _ _ _ _ c.if-out-size.false) refl refl
     (c.put_guard.ensures
     ∙ ap (λ o. take (5 + n) o ++ tail_bytes s.guard ++ drop (5 + n + tail_size carried) o) c.put_set.ensures
     ∙ put_next s.out.now (head_bytes new_version carried set) (tail_bytes s.guard) (5 + n) (tail_size carried) (omega arith)

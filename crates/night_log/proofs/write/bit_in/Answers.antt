@@ -8,14 +8,14 @@ use Rattle.layout.specs.Bytes.{byte_at}
 use Rattle.patterns.specs.Outcome.{outcome, bit}
 use Rattle.night_log.proofs.write.bit_in.Goals as goal
 
-own-bit : (n : ℕ) → n ≤ 1 → n ≡ bit (outcome n)
-own-bit zero h = refl
-own-bit (suc zero) h = refl
-own-bit (suc (suc n)) h = absurd (omega arith)
+own_bit : (n : ℕ) → n ≤ 1 → n ≡ bit (outcome n)
+own_bit zero h = refl
+own_bit (suc zero) h = refl
+own_bit (suc (suc n)) h = absurd (omega arith)
 
 pub returns : goal.returns
 returns c =
     let b = c.args.pattern.now in
     let i = c.args.i in
     let h = c.requires.1 i c.requires.0 in
-    (own-bit (byte_at b i) h ∙ ap bit (sym (get_or-map outcome b i 0)), h)
+    (own_bit (byte_at b i) h ∙ ap bit (sym (get_or-map outcome b i 0)), h)

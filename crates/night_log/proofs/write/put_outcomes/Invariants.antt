@@ -8,6 +8,7 @@ use Rattle.layout.proofs.Runs.{Pasted, pasted_none, pasted_turn, pasted_all}
 use Rattle.patterns.specs.Outcome.{outcomes}
 use Rattle.night_log.specs.Bytes.{packed_size, packed}
 use Rattle.night_log.proofs.Packing.{packed_length, packed_byte}
+use Rattle.night_log.proofs.write.put_outcomes.Goals.{After-packed_size-size}
 use Rattle.night_log.proofs.write.put_outcomes.Given as goal
 
 abbrev pub invariant-loop-j : goal.invariant-loop-j

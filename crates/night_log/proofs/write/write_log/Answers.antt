@@ -17,6 +17,7 @@ use Rattle.patterns.proofs.Outcomes.{outcomes_passed}
 use Rattle.night_log.specs.Bytes.{packed_size, size_of, packed, head_bytes, log_of}
 use Rattle.night_log.specs.Rows.{most_outcomes, write_rows}
 use Rattle.night_log.specs.Write.{LogWrittenAs}
+use Rattle.night_log.proofs.write.write_log.Goals.{After-packed_size-size}
 use Rattle.night_log.proofs.write.write_log.Goals as goal
 
 module _ (pattern out : List ℕ) where
@@ -24,8 +25,8 @@ module _ (pattern out : List ℕ) where
   many : most_outcomes < length pattern → first (write_rows pattern out) ≡ refused 15 0
   many h = first_here 15 0 _ _ (lt-ltb _ _ h)
 
-  few-rows : length pattern ≤ most_outcomes → first (write_rows pattern out) ≡ first (outcome_rows pattern 0 ++ (room_row out (size_of (length pattern)) ∷ []))
-  few-rows h = first_skip 15 0 _ _ (le-ltb _ _ h)
+  few_rows : length pattern ≤ most_outcomes → first (write_rows pattern out) ≡ first (outcome_rows pattern 0 ++ (room_row out (size_of (length pattern)) ∷ []))
+  few_rows h = first_skip 15 0 _ _ (le-ltb _ _ h)
 
   written : (t : Tested) (out' : List ℕ) (r : WriteAnswer) → first (write_rows pattern out) ≡ t → says r ≡ t → length_of r ≡ length_when t (size_of (length pattern))
       → out' ≡ buffer_when t (size_of (length pattern)) (log_of (outcomes pattern)) out → LogWrittenAs pattern out out' r
@@ -47,16 +48,16 @@ module _ (c : tie.Else2) where
   good : first (outcome_rows pattern 0) ≡ passed
   good = c.before.first-bad.ensures.1 ∙ (simp (le-ltb _ _ c.if2.false))
 
-  all-outcomes : AllOutcomes pattern
-  all-outcomes = (outcomes_passed pattern 0).0 good
+  all_outcomes : AllOutcomes pattern
+  all_outcomes = (outcomes_passed pattern 0).0 good
 
   at_room : first (write_rows pattern out) ≡ first (room_row out (size_of (length pattern)) ∷ [])
-  at_room = few-rows pattern out few ∙ passed_before (outcome_rows pattern 0) (room_row out (size_of (length pattern)) ∷ []) good
+  at_room = few_rows pattern out few ∙ passed_before (outcome_rows pattern 0) (room_row out (size_of (length pattern)) ∷ []) good
 
 -- past the tests of the pattern
 -- the length needed
-sized : (c : tie.After-packed-size) → 9 + c.packed-size.result ≡ size_of (length (pattern c.before))
-sized c = ap (λ z. 9 + z) c.packed-size.ensures.0
+sized : (c : After-packed_size-size) → 9 + c.packed_size-size.result ≡ size_of (length (pattern c))
+sized c = ap (λ z. 9 + z) c.packed_size-size.ensures.0
 
 pub returns-then-count-gt-MOST_OUTCOMES : goal.returns-then-count-gt-MOST_OUTCOMES
 returns-then-count-gt-MOST_OUTCOMES c = let s = c.args in written s.pattern.now s.out.now _ _ _ (many s.pattern.now s.out.now c.if-count-gt-MOST_OUTCOMES.true) refl refl refl
@@ -65,20 +66,20 @@ pub returns-then-bad-count : goal.returns-then-bad-count
 returns-then-bad-count c =
     let s = c.args in
     written s.pattern.now s.out.now (refused 13 c.first_bad-bad.result) _ _
-    (few-rows s.pattern.now s.out.now (omega (arith, c.if-count-gt-MOST_OUTCOMES.false))
+    (few_rows s.pattern.now s.out.now (omega (arith, c.if-count-gt-MOST_OUTCOMES.false))
     ∙ refused_before (outcome_rows s.pattern.now 0) (room_row s.out.now (size_of (length s.pattern.now)) ∷ []) (c.first_bad-bad.ensures.1 ∙ (simp (lt-ltb _ _ c.if-bad-count.true)))) refl refl refl
 
 pub returns-then-out-size : goal.returns-then-out-size
 returns-then-out-size c =
     let n = size_of (length (pattern c)) in
-    written (pattern c) (out c) (refused 9 n) _ _ (at_room c ∙ too_short 9 n (length (out c)) n (omega (arith, sized c, c.if-out-size.true))) (ap (refused 9) (sized c)) refl refl
+    written (pattern c) (out c) (refused 9 n) _ _ (at_room c ∙ too_short 9 n (length (out c)) n (omega (arith, sized (goal.at.returns-then-out-size c).After-packed_size-size, c.if-out-size.true))) (ap (refused 9) (sized (goal.at.returns-then-out-size c).After-packed_size-size)) refl refl
 
 pub put_head-requires : goal.put_head-requires
 put_head-requires c = (omega (arith, few c), omega (arith, c.if-out-size.false))
 
 pub put_outcomes-requires : goal.put_outcomes-requires
 put_outcomes-requires c =
-    (omega (arith, few c), omega (arith, sized c, c.if-out-size.false, c.put_head.auto.0), all-outcomes c)
+    (omega (arith, few c), omega (arith, sized (goal.at.put_outcomes-requires c).After-packed_size-size, c.if-out-size.false, c.put_head.auto.0), all_outcomes c)
 
 pub returns : goal.returns
 unfolding first
@@ -86,7 +87,7 @@ returns c =
     let n = length (pattern c) in
     let p = outcomes (pattern c) in
     let v = packed p 0 (packed_size n) in
-    written (pattern c) (out c) passed _ _ (at_room c ∙ long_enough 9 (size_of n) (length (out c)) (size_of n) (omega (arith, sized c, c.if-out-size.false))) refl (sized c)
+    written (pattern c) (out c) passed _ _ (at_room c ∙ long_enough 9 (size_of n) (length (out c)) (size_of n) (omega (arith, sized (goal.at.returns c).After-packed_size-size, c.if-out-size.false))) refl (sized (goal.at.returns c).After-packed_size-size)
     (c.put_outcomes.ensures
     ∙ ap (λ z. take 9 z ++ v ++ drop (9 + packed_size n) z) c.put_head.ensures
     ∙ put_next (out c) (head_bytes n) v 9 (packed_size n) refl

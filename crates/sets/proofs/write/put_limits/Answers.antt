@@ -8,16 +8,16 @@ use Rattle.sets.proofs.Turns.{written_to, write_none, write_turn}
 use Rattle.sets.proofs.write.put_limits.Goals as goal
 
 pub loop-i-init : goal.loop-i-init
-loop-i-init c = let s = c.args in (search rules, refl, write_none s.t2 s.out.now)
+loop-i-init c = let s = c.args in (search rules, refl, write_none s.set s.out.now)
 
 pub loop-i-preserved : goal.loop-i-preserved
 loop-i-preserved c =
     let p = c.put_limit in
     let s = c.args in
-    (omega arith, p.auto.0 ∙ c.loop-i.invariant.1, write_turn s.t2 s.out.now c.loop-i.out p.new.0 c.loop-i.i (omega arith) c.loop-i.invariant.2 p.ensures)
+    (omega arith, p.auto.0 ∙ c.loop-i.invariant.1, write_turn s.set s.out.now c.loop-i.out p.new.0 c.loop-i.i (omega arith) c.loop-i.invariant.2 p.ensures)
 
 pub returns : goal.returns
 returns c =
     let s = c.args in
-    let e : c.loop-i.i ≡ s.t2.count = omega arith in
-    c.loop-i.invariant.2 ∙ ap (written_to s.t2 s.out.now) e
+    let e : c.loop-i.i ≡ s.set.count = omega arith in
+    c.loop-i.invariant.2 ∙ ap (written_to s.set s.out.now) e

@@ -15,17 +15,14 @@ use Rattle.sets.specs.Bytes.{head_bytes, limit_bytes}
 use Rattle.sets.specs.Read.{says}
 use Rattle.sets.specs.Rows.{memory_rows}
 use Rattle.sets.proofs.Accepted.{memory_allowed}
+use Rattle.sets.proofs.write.write_set.Goals.{In_default}
 use Rattle.sets.proofs.write.write_set.Goals as goal
 
--- the rows of the set were passed
-abbrev start : tie.After-enum-told → tie.Start
-start c = c.before.before.before.before
+at_room : (c : In_default) → first (memory_rows longest c.args.set) ≡ passed
+at_room c = sym c.test_memory-answer.ensures ∙ ap says c.enum_told-1.given.1
 
-at_room : (c : tie.After-enum-told) → first (memory_rows longest (start c).args.set) ≡ passed
-at_room c = sym c.before.before.test-memory.ensures ∙ ap says c.enum_told.given.1
-
-allowed : (c : tie.After-enum-told) → SetAllowed longest (start c).args.set
-allowed c = memory_allowed longest (start c).args.set (at_room c)
+allowed : (c : In_default) → SetAllowed longest c.args.set
+allowed c = memory_allowed longest c.args.set (at_room c)
 
 pub returns-in-Refused : goal.returns-in-Refused
 returns-in-Refused c =
@@ -33,28 +30,28 @@ returns-in-Refused c =
     written_by _ _ _ s.out.now _ _ _ (refused_before _ _ (sym c.test_memory-answer.ensures ∙ ap says c.answer-1.given.1)) refl refl refl
 
 pub overflow_mul-size : goal.overflow_mul-size
-overflow_mul-size c = let a = allowed c in omega arith
+overflow_mul-size c = let a = allowed (goal.at.overflow_mul-size c).In_default in omega arith
 
 pub overflow_add-size : goal.overflow_add-size
-overflow_add-size c = let a = allowed c in omega arith
+overflow_add-size c = let a = allowed (goal.at.overflow_add-size c).In_default in omega arith
 
 pub returns-then-out-size : goal.returns-then-out-size
 returns-then-out-size c =
-    let s = (start c).args in
-    written_by _ _ _ s.out.now _ _ _ (passed_before _ _ (at_room c) ∙ too_short _ _ _ _ c.if-out-size.true) refl refl refl
+    let s = c.args in
+    written_by _ _ _ s.out.now _ _ _ (passed_before _ _ (at_room (goal.at.returns-then-out-size c).In_default) ∙ too_short _ _ _ _ c.if-out-size.true) refl refl refl
 
 pub put_head-requires : goal.put_head-requires
-put_head-requires c = let a = allowed c in (omega arith, omega arith)
+put_head-requires c = let a = allowed (goal.at.put_head-requires c).In_default in (omega arith, omega arith)
 
 pub put_limits-requires : goal.put_limits-requires
-put_limits-requires c = let a = allowed c in (omega arith, omega arith)
+put_limits-requires c = let a = allowed (goal.at.put_limits-requires c).In_default in (omega arith, omega arith)
 
 pub returns : goal.returns
 returns c =
-    let s = (start c).args in
+    let s = c.args in
     let n = s.set.count in
     written_by _ _ _ s.out.now _ _ _
-    (passed_before _ _ (at_room c) ∙ long_enough _ _ _ _ c.if-out-size.false) refl refl
+    (passed_before _ _ (at_room (goal.at.returns c).In_default) ∙ long_enough _ _ _ _ c.if-out-size.false) refl refl
     (c.put_limits.ensures
     ∙ ap (λ o. take 6 o ++ limit_bytes s.set 0 n ++ drop (6 + 3 * n) o) c.put_head.ensures
     ∙ put_next s.out.now (head_bytes n) (limit_bytes s.set 0 n) 6 (3 * n) refl)
