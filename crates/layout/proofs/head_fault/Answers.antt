@@ -1,7 +1,6 @@
 -- `layout::head_fault` meets its contract: each return is a case of the head. Assumes nothing.
 use mathlib.Core.Path.{sym, ◌∙◌}
 use native.Mathlib.Omega.{arith}
-use borrow.Author.Rules.{rules}
 use Rattle.layout.proofs.Head.{some_fault, head_short, head_unequal, head_other, head_right}
 use Rattle.layout.proofs.head_fault.Goals as goal
 

@@ -1,7 +1,6 @@
 -- `layout::put_four` meets its contract: four stores in a row. Assumes nothing.
 use native.Mathlib.Numerals.{add-one, add-two, add-three}
 use native.Mathlib.Omega.{arith}
-use borrow.Author.Rules.{rules}
 use lib.ListN.{length-set}
 use lib.Seq.{sets-eq}
 use Rattle.layout.specs.Bytes.{four_bytes}

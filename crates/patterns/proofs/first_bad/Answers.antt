@@ -1,12 +1,9 @@
 -- `patterns::first_bad`: what the test says of all bytes it says of those from i on. Assumes nothing.
-use mathlib.Core.Path.{◌≡◌, sym, ◌∙◌}
-use Prim.Native.Nat.{◌≤◌, ◌-◌}
+use mathlib.Core.Path.{sym, ◌∙◌}
+use Prim.Native.Nat.{◌≤◌}
 use native.Mathlib.Omega.{arith}
-use borrow.Author.Rules.{rules}
 use borrow.Author.Tests.{lt-ltb, le-ltb}
-use lib.ListN.{length, drop}
-use Rattle.layout.specs.Refusal.{first}
-use Rattle.patterns.specs.Outcome.{outcome_rows}
+use lib.ListN.{length}
 use Rattle.patterns.proofs.Outcomes.{outcome_good, outcome_bad, outcome_end}
 use Rattle.patterns.proofs.first_bad.Goals as goal
 
