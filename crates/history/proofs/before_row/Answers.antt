@@ -1,8 +1,7 @@
 -- `history::before_row`: at each turn's start the run has fewer than x hits, so that no row is passed; the outcome that makes them x is in a row. Each turn passes one outcome, so that there are no more turns than n. Assumes nothing.
-use Prim.Native.Nat.{◌+◌, ◌-◌, ◌≤◌, ◌<◌}
+use Prim.Native.Nat.{◌+◌}
 use native.Mathlib.Omega.{arith}
-use borrow.Author.Rules.{rules}
-use Rattle.history.proofs.Passed.{Passed, none_passed, passed_more, passed_none, passed_row, row_stays}
+use Rattle.history.proofs.Passed.{none_passed, passed_more, passed_none, passed_row, row_stays}
 use Rattle.history.proofs.before_row.Goals as goal
 
 pub loop-passed-init : goal.loop-passed-init

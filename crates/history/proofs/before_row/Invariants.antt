@@ -1,8 +1,6 @@
 -- `history::before_row`: at each turn's start the run has fewer than x hits, so that no row is passed; the outcome that makes them x is in a row. Each turn passes one outcome, so that there are no more turns than n. Assumes nothing.
-use Prim.Native.Nat.{◌+◌, ◌-◌, ◌≤◌, ◌<◌}
-use native.Mathlib.Omega.{arith}
-use borrow.Author.Rules.{rules}
-use Rattle.history.proofs.Passed.{Passed, none_passed, passed_more, passed_none, passed_row, row_stays}
+use Prim.Native.Nat.{◌-◌, ◌≤◌, ◌<◌}
+use Rattle.history.proofs.Passed.{Passed}
 use Rattle.history.proofs.before_row.Given as goal
 
 abbrev pub invariant-loop-passed : goal.invariant-loop-passed

@@ -1,13 +1,7 @@
 -- `history::blocking_limit`: no limit that was passed blocks. Assumes nothing.
-use mathlib.Core.Path.{◌≡◌, sym, ◌∙◌}
-use mathlib.Core.Bool.{true}
-use Prim.Native.Nat.{ℕ, ◌≤◌, ◌<◌, ◌-◌}
+use mathlib.Core.Path.{sym, ◌∙◌}
 use native.Mathlib.Omega.{arith}
 use borrow.Author.Count.{below_more}
-use borrow.Author.Rules.{rules}
-use borrow.Author.Tests.{not-true, not-false}
-use Rattle.meaning.specs.Sets.{rule_at}
-use Rattle.history.specs.MayMiss.{may_miss_under}
 use Rattle.history.proofs.blocking_limit.Goals as goal
 
 pub loop-i-init : goal.loop-i-init
@@ -22,14 +16,14 @@ returns-then-not-limit_may_miss c =
     record {
       within = omega arith;
       before = l.invariant.1;
-      here = λ h. sym c.limit_may_miss.ensures ∙ not-true _ c.if-not-limit_may_miss.true;
+      here = λ h. sym c.limit_may_miss.ensures ∙ c.if-not-limit_may_miss.true;
     }
 
 pub loop-i-preserved : goal.loop-i-preserved
 loop-i-preserved c =
     let l = c.loop-i in (
       omega arith,
-      below_more _ _ l.invariant.1 (sym c.limit_may_miss.ensures ∙ not-false _ c.if-not-limit_may_miss.false),
+      below_more _ _ l.invariant.1 (sym c.limit_may_miss.ensures ∙ c.if-not-limit_may_miss.false),
     )
 
 pub returns : goal.returns

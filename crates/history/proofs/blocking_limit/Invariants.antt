@@ -1,11 +1,7 @@
 -- `history::blocking_limit`: no limit that was passed blocks. Assumes nothing.
-use mathlib.Core.Path.{◌≡◌, sym, ◌∙◌}
+use mathlib.Core.Path.{◌≡◌}
 use mathlib.Core.Bool.{true}
 use Prim.Native.Nat.{ℕ, ◌≤◌, ◌<◌, ◌-◌}
-use native.Mathlib.Omega.{arith}
-use borrow.Author.Count.{below_more}
-use borrow.Author.Rules.{rules}
-use borrow.Author.Tests.{not-true, not-false}
 use Rattle.meaning.specs.Sets.{rule_at}
 use Rattle.history.specs.MayMiss.{may_miss_under}
 use Rattle.history.proofs.blocking_limit.Given as goal

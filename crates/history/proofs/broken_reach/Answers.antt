@@ -1,6 +1,5 @@
 -- `history::broken_reach`: under RowHit what `before_row` ensures, and under every other kind what `reach` does. Assumes nothing.
 use native.Mathlib.Omega.{arith}
-use borrow.Author.Rules.{rules}
 use Rattle.meaning.specs.Longest.{longest}
 use Rattle.meaning.proofs.Widths.{allowed_numbers}
 use Rattle.history.proofs.Reaching.{row_hits, row_reaches, end_reaches}
@@ -15,8 +14,8 @@ before_row-requires c =
 
 pub returns-then-limit-eq1 : goal.returns-then-limit-eq1
 returns-then-limit-eq1 c =
-    let (short, none, later) = c-row.ensures in
-    row_reaches longest c.args.limit c.args.history c.requires.0 c.requires.1 c-row.result c.if-limit-eq1.true none (λ a f g. later a f (omega arith)) (omega arith)
+    let (short, none, later) = c.before_row.ensures in
+    row_reaches longest c.args.limit c.args.history c.requires.0 c.requires.1 c.before_row.result c.if-limit-eq1.true none (λ a f g. later a f (omega arith)) (omega arith)
 
 pub returns : goal.returns
 returns c =

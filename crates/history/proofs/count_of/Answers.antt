@@ -4,7 +4,6 @@ use Prim.Native.Nat.{◌*◌, ◌-◌, ◌%◌, ◌^◌}
 use native.Mathlib.Nat.{one-mul}
 use native.Mathlib.Omega.{arith}
 use lib.Pow.{pow_pos, pow_mono, shl_exact}
-use borrow.Author.Rules.{rules}
 use Rattle.meaning.specs.Longest.{longest}
 use Rattle.history.proofs.count_of.Goals as goal
 

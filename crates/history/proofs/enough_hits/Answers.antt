@@ -1,7 +1,6 @@
 -- `history::enough_hits`: by what `hits_among` ensures. Assumes nothing.
 use mathlib.Core.Path.{ap}
 use lib.Dec.{leb}
-use borrow.Author.Rules.{rules}
 use Rattle.history.proofs.enough_hits.Goals as goal
 
 pub returns : goal.returns

@@ -1,7 +1,6 @@
 -- `history::hits_among`: the ones of the low bits are the hits. Assumes nothing.
 use mathlib.Core.Path.{ap, ◌∙◌}
 use lib.Count.{ones}
-use borrow.Author.Rules.{rules}
 use Rattle.history.proofs.Bits.{ones_hits}
 use Rattle.history.proofs.hits_among.Goals as goal
 

@@ -1,13 +1,7 @@
 -- `history::length_for`: the limits passed ask for no more than the length so far. Assumes nothing.
-use mathlib.Core.Logic.{⊎_elim}
 use Prim.Native.Nat.{ℕ, suc, ◌≤◌, ◌<◌, ◌-◌}
-use native.Mathlib.Omega.{arith}
-use borrow.Author.Count.{below_more}
-use borrow.Author.Rules.{rules}
-use Rattle.meaning.specs.Longest.{longest}
 use Rattle.meaning.specs.Limit.{width}
 use Rattle.meaning.specs.Sets.{SetAllowed, rule_at}
-use Rattle.meaning.proofs.Widths.{width_allowed, set_narrower, some_window}
 use Rattle.history.proofs.length_for.Given as goal
 
 abbrev pub invariant-loop-at : goal.invariant-loop-at

@@ -1,5 +1,4 @@
 -- `history::may_miss`: a miss may follow exactly when no limit blocks it. Assumes nothing.
-use borrow.Author.Rules.{rules}
 use Rattle.history.proofs.Blocking.{blocks_may_miss}
 use Rattle.history.proofs.may_miss.Goals as goal
 

@@ -3,7 +3,6 @@ use mathlib.Core.Path.{◌≡◌, ap, ◌∙◌}
 use Prim.Native.Nat.{◌*◌, ◌%◌}
 use native.Mathlib.Omega.{arith}
 use lib.Bits.{bit_and, bit_or, or_shifted, and_le_r}
-use borrow.Author.Rules.{rules}
 use Rattle.patterns.specs.Outcome.{bit}
 use Rattle.patterns.proofs.Numbers.{bit_le}
 use Rattle.history.specs.History.{shifted}

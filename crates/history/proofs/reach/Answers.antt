@@ -1,6 +1,5 @@
 -- `history::reach`: one less than the window, by the kind. Assumes nothing.
 use native.Mathlib.Omega.{arith}
-use borrow.Author.Rules.{rules}
 use Rattle.meaning.specs.Longest.{longest}
 use Rattle.meaning.proofs.Widths.{allowed_numbers, allowed_row_miss, window_is_k, window_is_x}
 use Rattle.history.proofs.reach.Goals as goal

@@ -1,8 +1,7 @@
 -- `history::row_among`: the row is the run just looked at, or is to be found in what is left. Each turn leaves one run of hits less, so that there are no more turns than runs. Assumes nothing.
 use mathlib.Core.Path.{sym, subst}
 use native.Mathlib.Omega.{arith}
-use borrow.Author.Rules.{rules}
-use Rattle.history.proofs.Turns.{Left, runs_in, left_first, left_end, left_found, left_more, left_less, misses_fit, run_fits}
+use Rattle.history.proofs.Turns.{Left, left_first, left_end, left_found, left_more, left_less, misses_fit, run_fits}
 use Rattle.history.proofs.row_among.Goals as goal
 
 pub loop-rest-init : goal.loop-rest-init
