@@ -1,23 +1,23 @@
 -- What one job tells apart: a hit may always follow, so only whether a miss may. So the marks, with the least history of each, are the classes of one job. Assumes nothing.
 use mathlib.Core.Path.{◌≡◌, refl, sym, ap, ◌∙◌, subst}
 use mathlib.Core.Logic.{◌⊎◌, inl, inr, ⊎_elim, dite}
-use mathlib.Core.Option.{Option, none, some, none-ne-some}
+use mathlib.Core.Option.{none, some, none-ne-some}
 use mathlib.Core.Bool.{Bool, true, false, cond, true≢false}
 use mathlib.Core.List.{List, [], ◌∷◌}
-use Prim.Native.Nat.{ℕ, zero, suc, ◌+◌, ◌%◌, ◌^◌, ◌≤◌, ◌<◌}
+use Prim.Native.Nat.{ℕ, ◌+◌, ◌%◌, ◌^◌, ◌≤◌, ◌<◌}
 use native.Mathlib.Decide.{dec_lt}
 use native.Mathlib.Omega.{arith}
 use borrow.Author.Tests.{le-leb, lt-leb}
 use lib.Dec.{leb}
 use lib.ListN.{get_or}
-use Rattle.machines.specs.Machine.{Machine, onward, walk, Can}
+use Rattle.machines.specs.Machine.{Machine, onward, Can}
 use Rattle.machines.specs.Same.{SameTo}
 use Rattle.meaning.specs.declared.LimitSet.{LimitSet}
 use Rattle.history.specs.History.{pushed}
 use Rattle.history.specs.MayMiss.{may_miss}
 use Rattle.history.specs.Machine.{history_machine}
 use Rattle.classes.specs.Area.{high, class_at, may_at}
-use Rattle.classes.specs.Stage.{first_entry, Started, FirstApart, parted_of, Parted, Stage}
+use Rattle.classes.specs.Stage.{Started, parted_of, Parted, Stage}
 
 -- a miss that may follow, and one that may follow elsewhere
 miss_too : (x y : Bool) (a b : ℕ) → x ≡ y → (t : ℕ) × (onward (cond x (some a) none) (λ u. some u) ≡ some t) → (t : ℕ) × (onward (cond y (some b) none) (λ u. some u) ≡ some t)

@@ -1,6 +1,5 @@
 -- `classes::bucket_of`: what is masked with n - 1 is below n. Assumes nothing.
 use mathlib.Core.Path.{refl}
-use borrow.Author.Rules.{rules}
 use Rattle.classes.specs.Signature.{bucket}
 use Rattle.classes.proofs.Signatures.{bucket_lt}
 use Rattle.classes.proofs.bucket_of.Goals as goal

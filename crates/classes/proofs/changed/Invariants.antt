@@ -1,10 +1,6 @@
 -- `classes::changed`: the classes below h are those of the last round. Assumes nothing.
-use mathlib.Core.Path.{◌≡◌, sym, ◌∙◌}
-use mathlib.Core.Bool.{true≢false}
+use mathlib.Core.Path.{◌≡◌}
 use Prim.Native.Nat.{ℕ, ◌-◌, ◌≤◌, ◌<◌}
-use native.Mathlib.Omega.{arith}
-use borrow.Author.Rules.{rules}
-use borrow.Author.Count.{below_more}
 use Rattle.classes.specs.Chain.{new_class}
 use Rattle.classes.specs.Area.{class_at}
 use Rattle.classes.proofs.changed.Given as goal

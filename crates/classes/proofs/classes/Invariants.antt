@@ -1,19 +1,8 @@
 -- `classes::classes`: after i rounds, the one that is read off the marks among them, the classes are those of i jobs, whatever the set, so the invariant names none. It ends after m of them, or where one changed nothing. Assumes nothing.
-use mathlib.Core.Path.{◌≡◌, sym, subst}
-use mathlib.Core.List.{List}
-use Prim.Native.Nat.{ℕ, ◌-◌}
-use native.Mathlib.Numerals.{add-one}
-use native.Mathlib.Omega.{arith}
-use borrow.Author.Tests.{not-true, not-false}
-use borrow.Author.Rules.{rules}
+use Prim.Native.Nat.{◌-◌}
 use Rattle.meaning.specs.declared.LimitSet.{LimitSet}
 use Rattle.classes.specs.Area.{Within}
-use Rattle.classes.specs.Chain.{Room}
 use Rattle.classes.specs.Stage.{Stage}
-use Rattle.classes.proofs.Keeping.{within_refl, within_trans, room_for}
-use Rattle.classes.proofs.OneJob.{marks_small, stage_one}
-use Rattle.classes.proofs.Stages.{stage_end}
-use Rattle.classes.proofs.classes.Goals.{After-part, After-start, Start}
 use Rattle.classes.proofs.classes.Given as goal
 
 abbrev pub invariant-loop-i : goal.invariant-loop-i

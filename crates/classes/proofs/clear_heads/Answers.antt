@@ -1,12 +1,10 @@
 -- `classes::clear_heads`: the heads below b are 0 and the rest is kept, so no history is placed yet. Assumes nothing.
-use mathlib.Core.Path.{◌≡◌, ◌∙◌}
-use Prim.Native.Nat.{ℕ, ◌+◌, ◌-◌, ◌*◌, ◌≤◌, ◌<◌}
+use mathlib.Core.Path.{◌∙◌}
+use Prim.Native.Nat.{◌+◌, ◌*◌}
 use native.Mathlib.Omega.{arith}
-use borrow.Author.Rules.{rules}
 use borrow.Author.Count.{below_more}
 use lib.ListN.{set}
 use lib.Seq.{get_or-set_same, get_or-set_other}
-use Rattle.classes.specs.Chain.{head, Kept}
 use Rattle.classes.proofs.Keeping.{kept_refl, kept_trans, kept_set, room_kept}
 use Rattle.classes.proofs.Placing.{placed_none}
 use Rattle.classes.proofs.clear_heads.Goals as goal
@@ -23,7 +21,7 @@ loop-b-preserved c =
     let K = kept_set n w (2 * n + b) 0 (omega arith) (omega arith) in (
       omega arith,
       kept_trans n c.args.work.now w (set w (2 * n + b) 0) I.1 K,
-      below_more _ b (λ c c. get_or-set_other w (2 * n + b) (2 * n + c) 0 0 (omega arith) ∙ I.2 c c)
+      below_more _ b (λ j l. get_or-set_other w (2 * n + b) (2 * n + j) 0 0 (omega arith) ∙ I.2 j l)
           (get_or-set_same w (2 * n + b) 0 0 (omega (arith, I.1.within.length_stays))),
     )
 

@@ -2,7 +2,6 @@
 use mathlib.Core.Path.{sym, ap, ◌∙◌, subst}
 use Prim.Native.Nat.{◌<◌}
 use native.Mathlib.Omega.{arith}
-use borrow.Author.Rules.{rules}
 use Rattle.classes.specs.Chain.{head}
 use Rattle.classes.proofs.Seek.{Seek, seek_start, seek_none, seek_falls, seek_found, seek_on}
 use Rattle.classes.proofs.find.Goals as goal

@@ -1,7 +1,6 @@
 -- `classes::left_of`: each case by what `limit_may_miss` says. Assumes nothing.
 use mathlib.Core.Path.{sym, ap, ◌∙◌}
 use mathlib.Core.Bool.{Bool, cond}
-use borrow.Author.Rules.{rules}
 use Rattle.classes.proofs.left_of.Goals as goal
 
 pub returns-then-limit_may_miss : goal.returns-then-limit_may_miss

@@ -1,6 +1,5 @@
 -- `classes::place`: the stores of a history that joins a class, or that is a class of its own. Assumes nothing.
 use native.Mathlib.Omega.{arith}
-use borrow.Author.Rules.{rules}
 use lib.ListN.{length-set}
 use Rattle.classes.proofs.Placing.{placed_joined, placed_alone}
 use Rattle.classes.proofs.place.Goals as goal

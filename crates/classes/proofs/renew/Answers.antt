@@ -1,11 +1,10 @@
 -- `classes::renew`: the entries below h have the new class and the old bit, and those from h on are as they were. Assumes nothing.
 use mathlib.Core.Path.{◌≡◌, refl, ap, ◌∙◌}
-use Prim.Native.Nat.{ℕ, ◌+◌, ◌-◌, ◌*◌, ◌/◌, ◌%◌, ◌≤◌, ◌<◌}
+use Prim.Native.Nat.{ℕ, ◌+◌, ◌*◌, ◌/◌, ◌%◌, ◌<◌}
 use native.Mathlib.Omega.{arith}
-use borrow.Author.Rules.{rules}
 use borrow.Author.Count.{below_more}
 use lib.Dec.{leb}
-use lib.ListN.{length, get_or, set, length-set}
+use lib.ListN.{get_or, set, length-set}
 use lib.Seq.{get_or-set_same, get_or-set_other}
 use Rattle.classes.specs.Chain.{new_class}
 use Rattle.classes.specs.Area.{high, class_at, may_at}
@@ -15,13 +14,10 @@ use Rattle.classes.proofs.renew.Goals as goal
 pub loop-h-init : goal.loop-h-init
 loop-h-init c = (omega arith, refl, (λ g l. absurd (omega arith)), λ g l. refl)
 
-pub overflow_mul-work : goal.overflow_mul-work
-overflow_mul-work c = omega (arith, c.slice_known-1.given c.loop-h.h)
-
 pub overflow_add-work : goal.overflow_add-work
 overflow_add-work c =
     let h = c.loop-h.h in
-    omega (arith, c.slice_known-1.given h, c.loop-h.invariant.3 (c.args.n + h) (omega arith), c.requires.1 h c.loop-h-test.true)
+    omega (arith, c.loop-h.invariant.3 (c.args.n + h) (omega arith), c.requires.1 h c.loop-h-test.true)
 
 pub loop-h-preserved : goal.loop-h-preserved
 loop-h-preserved c =

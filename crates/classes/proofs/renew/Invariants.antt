@@ -1,15 +1,9 @@
 -- `classes::renew`: the entries below h have the new class and the old bit, and those from h on are as they were. Assumes nothing.
-use mathlib.Core.Path.{◌≡◌, refl, ap, ◌∙◌}
-use Prim.Native.Nat.{ℕ, ◌+◌, ◌-◌, ◌*◌, ◌/◌, ◌%◌, ◌≤◌, ◌<◌}
-use native.Mathlib.Omega.{arith}
-use borrow.Author.Rules.{rules}
-use borrow.Author.Count.{below_more}
-use lib.Dec.{leb}
-use lib.ListN.{length, get_or, set, length-set}
-use lib.Seq.{get_or-set_same, get_or-set_other}
+use mathlib.Core.Path.{◌≡◌}
+use Prim.Native.Nat.{ℕ, ◌-◌, ◌≤◌, ◌<◌}
+use lib.ListN.{length, get_or}
 use Rattle.classes.specs.Chain.{new_class}
-use Rattle.classes.specs.Area.{high, class_at, may_at}
-use Rattle.classes.proofs.Entries.{renewed_class, renewed_may}
+use Rattle.classes.specs.Area.{class_at, may_at}
 use Rattle.classes.proofs.renew.Given as goal
 
 abbrev pub invariant-loop-h : goal.invariant-loop-h

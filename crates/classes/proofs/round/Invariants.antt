@@ -1,11 +1,6 @@
 -- `classes::round`: the histories below h are placed, and at the end all are. Assumes nothing.
-use mathlib.Core.Path.{◌≡◌, subst}
 use Prim.Native.Nat.{◌-◌, ◌≤◌}
-use native.Mathlib.Omega.{arith}
-use borrow.Author.Rules.{rules}
-use Rattle.classes.specs.Chain.{Placed, Kept, Grouped}
-use Rattle.classes.proofs.Keeping.{kept_refl, kept_trans}
-use Rattle.classes.proofs.Placing.{rounded}
+use Rattle.classes.specs.Chain.{Placed, Kept}
 use Rattle.classes.proofs.round.Given as goal
 
 abbrev pub invariant-loop-h : goal.invariant-loop-h

@@ -1,7 +1,6 @@
 -- `classes::signature`: both next histories are among the n, and the bit of h picks the case of the definition. Assumes nothing.
 use mathlib.Core.Path.{ap, ◌∙◌}
 use native.Mathlib.Omega.{arith}
-use borrow.Author.Rules.{rules}
 use Rattle.classes.specs.Area.{class_at}
 use Rattle.classes.proofs.Signatures.{sig_blocked, sig_open}
 use Rattle.classes.proofs.signature.Goals as goal

@@ -1,12 +1,11 @@
 -- `classes::unmark`: the entries below h are what the limit leaves of them, and those from h on are as they were. Assumes nothing.
-use mathlib.Core.Path.{◌≡◌, ap, ◌∙◌}
-use Prim.Native.Nat.{ℕ, ◌-◌, ◌≤◌, ◌<◌}
+use mathlib.Core.Path.{ap, ◌∙◌}
+use Prim.Native.Nat.{ℕ}
 use native.Mathlib.Omega.{arith}
-use borrow.Author.Rules.{rules}
 use borrow.Author.Count.{below_more}
-use lib.ListN.{length, get_or, length-set}
+use lib.ListN.{length-set}
 use lib.Seq.{get_or-set_same, get_or-set_other}
-use Rattle.classes.specs.Stage.{left_of, left_in}
+use Rattle.classes.specs.Stage.{left_of}
 use Rattle.classes.proofs.unmark.Goals as goal
 
 pub loop-h-preserved : goal.loop-h-preserved

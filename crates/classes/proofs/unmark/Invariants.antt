@@ -1,12 +1,8 @@
 -- `classes::unmark`: the entries below h are what the limit leaves of them, and those from h on are as they were. Assumes nothing.
-use mathlib.Core.Path.{◌≡◌, ap, ◌∙◌}
+use mathlib.Core.Path.{◌≡◌}
 use Prim.Native.Nat.{ℕ, ◌-◌, ◌≤◌, ◌<◌}
-use native.Mathlib.Omega.{arith}
-use borrow.Author.Rules.{rules}
-use borrow.Author.Count.{below_more}
-use lib.ListN.{length, get_or, length-set}
-use lib.Seq.{get_or-set_same, get_or-set_other}
-use Rattle.classes.specs.Stage.{left_of, left_in}
+use lib.ListN.{length, get_or}
+use Rattle.classes.specs.Stage.{left_in}
 use Rattle.classes.proofs.unmark.Given as goal
 
 abbrev pub invariant-loop-h : goal.invariant-loop-h
