@@ -1,6 +1,7 @@
 // Which histories can't be told apart: for each the least one that allows the same outcomes for ever after,
 // found by rounds of refinement in a lent work area.
 #![tactic(auto)]
+
 ghost use Rattle.std.specs.Prelude.{◌≡◌, true, false, ℕ, ◌+◌, ◌-◌, ◌*◌, ◌^◌, ◌≤◌, ◌<◌, length, get_or};
 ghost use Rattle.meaning.specs.Longest.{longest};
 ghost use Rattle.meaning.specs.Limit.{Allowed};

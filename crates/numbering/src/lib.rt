@@ -2,6 +2,7 @@
 // The first region of the work area has the classes of n histories. The third gets the number of each class, 0 for none
 // or one more than the number; the fourth the classes in the order of their numbers.
 #![tactic(auto)]
+
 ghost use Rattle.std.specs.Prelude.{◌≡◌, false, ◌+◌, ◌≤◌, ◌<◌, length};
 ghost use Rattle.machines.specs.Numbering.{place};
 ghost use Rattle.classes.specs.Area.{used, high, class_at};

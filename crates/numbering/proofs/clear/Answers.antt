@@ -1,11 +1,8 @@
 -- `numbering::clear`: the numbers below c are 0, and a store among the numbers keeps the classes. Assumes nothing.
-use mathlib.Core.Path.{◌≡◌, ◌∙◌}
-use Prim.Native.Nat.{ℕ, ◌+◌, ◌-◌, ◌*◌, ◌≤◌, ◌<◌}
+use mathlib.Core.Path.{◌∙◌}
+use Prim.Native.Nat.{◌+◌, ◌*◌}
 use native.Mathlib.Omega.{arith}
-use borrow.Author.Rules.{rules}
 use borrow.Author.Count.{below_more}
-use Rattle.numbering.specs.Numbered.{number_at}
-use Rattle.numbering.specs.Work.{Kept}
 use Rattle.numbering.proofs.Keeping.{kept_trans, kept_store}
 use lib.Seq.{get_or-set_same, get_or-set_other}
 use Rattle.numbering.proofs.clear.Goals as goal

@@ -2,7 +2,6 @@
 use mathlib.Core.Path.{sym, ◌∙◌, subst}
 use Prim.Native.Nat.{◌<◌}
 use native.Mathlib.Omega.{arith}
-use borrow.Author.Rules.{rules}
 use Rattle.classes.specs.Area.{class_at}
 use Rattle.numbering.specs.Numbered.{class_of}
 use Rattle.numbering.specs.Rows.{Visited}
@@ -29,7 +28,7 @@ returns-then-may_follow c =
     let w = c.args.work.now in
     read_more c.args.n w _ c.args.count _ c.args.i c.args.hit c.requires.1 c.requires.0
     (sym c.may_follow.ensures ∙ c.if-may_follow.true)
-    (subst (λ h. Visited c.args.n w c.visit.new.1.0 (class_at w h) c.args.count c.visit.result) c.push_index.ensures.0 c.visit.ensures)
+    (subst (λ h. Visited c.args.n w c.visit.new.work (class_at w h) c.args.count c.visit.result) c.push_index.ensures.0 c.visit.ensures)
 
 pub returns : goal.returns
 returns c =

@@ -1,6 +1,5 @@
 -- `numbering::may_follow`: the definition's two cases. Assumes nothing.
 use mathlib.Core.Path.{ap, sym}
-use borrow.Author.Rules.{rules}
 use Rattle.numbering.specs.Rows.{possible}
 use Rattle.numbering.proofs.may_follow.Goals as goal
 

@@ -1,10 +1,9 @@
 -- `numbering::number`: before row i the entries at earlier places are read, and after the last row all are. Assumes nothing.
 use mathlib.Core.Path.{◌≡◌, ◌∙◌, subst}
 use mathlib.Core.Bool.{true, false}
-use Prim.Native.Nat.{◌+◌, ◌-◌, ◌≤◌}
+use Prim.Native.Nat.{◌+◌}
 use native.Mathlib.Omega.{arith}
 use Rattle.machines.specs.Numbering.{place}
-use Rattle.numbering.specs.Work.{Kept}
 use Rattle.numbering.specs.Rows.{Numbering}
 use Rattle.numbering.proofs.Keeping.{kept_none, kept_trans}
 use Rattle.numbering.proofs.Classes.{classed_ready}
@@ -18,7 +17,7 @@ visit_start-count-requires c =
 pub loop-i-init : goal.loop-i-init
 loop-i-init c =
     let v = c.visit_start-count in
-    (omega arith, v.ensures.numbering, kept_none c.args.n v.new.1.0)
+    (omega arith, v.ensures.numbering, kept_none c.args.n v.new.work)
 
 pub follow-count-requires : goal.follow-count-requires
 follow-count-requires c = (c.loop-i-test.true, c.loop-i.invariant.1)

@@ -1,14 +1,9 @@
 -- `numbering::number`: before row i the entries at earlier places are read, and after the last row all are. Assumes nothing.
-use mathlib.Core.Path.{◌≡◌, ◌∙◌, subst}
-use mathlib.Core.Bool.{true, false}
-use Prim.Native.Nat.{◌+◌, ◌-◌, ◌≤◌}
-use native.Mathlib.Omega.{arith}
+use mathlib.Core.Bool.{false}
+use Prim.Native.Nat.{◌-◌, ◌≤◌}
 use Rattle.machines.specs.Numbering.{place}
 use Rattle.numbering.specs.Work.{Kept}
 use Rattle.numbering.specs.Rows.{Numbering}
-use Rattle.numbering.proofs.Keeping.{kept_none, kept_trans}
-use Rattle.numbering.proofs.Classes.{classed_ready}
-use Rattle.numbering.proofs.Promise.{numbered_from}
 use Rattle.numbering.proofs.number.Given as goal
 
 abbrev pub invariant-loop-i : goal.invariant-loop-i
