@@ -1,17 +1,15 @@
 -- `table::entry_of`: each return rewrites the rows of the entry with the tests that led there. Assumes nothing.
 use mathlib.Core.Path.{◌≡◌, ap₂, ◌∙◌}
-use mathlib.Core.Logic.{⊎_elim}
 use mathlib.Core.Bool.{not, ◌&&◌, and-false}
 use mathlib.Core.List.{[], ◌∷◌}
 use Prim.Native.Nat.{ℕ}
-use borrow.Author.Rules.{rules}
 use borrow.Author.Tests.{le-leb, lt-leb, eq-eqb, ne_eqb}
 use lib.Dec.{eqb, leb}
 use Rattle.layout.specs.Refusal.{Tested, row, first}
 use Rattle.table.specs.Bytes.{no_miss, state_count, miss_entry, hit_entry}
 use Rattle.table.specs.Rows.{entry_rows}
 use Rattle.table.specs.Check.{moves_by}
-use Rattle.table.proofs.entry_of.Goals.{After-pair-hit}
+use Rattle.table.proofs.entry_of.Goals.{After-pair-hit, then-miss+else-n-miss, else-miss}
 use Rattle.table.proofs.entry_of.Goals as goal
 
 ruleset tests = (le-leb, lt-leb, eq-eqb, ne_eqb, and-false)
@@ -36,11 +34,11 @@ returns-then-n-miss c = (search tests ∙ at_entry (goal.at.returns-then-n-miss 
 
 pub returns-then-n-hit : goal.returns-then-n-hit
 unfolding first
-returns-then-n-hit c = (⊎_elim (λ w. search tests) (λ w. search tests) c.if-miss.branch ∙ at_entry (goal.at.returns-then-n-hit c).After-pair-hit, tt)
+returns-then-n-hit c = ((elim c.if-miss.branch [ then-miss+else-n-miss w ↦ search tests | else-miss w ↦ search tests ]) ∙ at_entry (goal.at.returns-then-n-hit c).After-pair-hit, tt)
 
 pub returns : goal.returns
 unfolding first
 returns c = (
-  ⊎_elim (λ w. search tests) (λ w. search tests) c.if-miss.branch ∙ at_entry (goal.at.returns c).After-pair-hit,
+  (elim c.if-miss.branch [ then-miss+else-n-miss w ↦ search tests | else-miss w ↦ search tests ]) ∙ at_entry (goal.at.returns c).After-pair-hit,
   ap₂ moves_by c.pair-miss.ensures.0 c.pair-hit.ensures.0,
 )

@@ -1,23 +1,16 @@
 -- `table::look`: the rows of the counts decide, then that of the state, then those of its entry. Assumes nothing.
-use mathlib.Core.Path.{◌≡◌, sym, ap, ◌∙◌}
+use mathlib.Core.Path.{◌≡◌, sym, ◌∙◌}
 use mathlib.Core.List.{List, ◌∷◌}
 use Prim.Native.Nat.{ℕ}
 use native.Mathlib.Omega.{arith}
-use borrow.Author.Rules.{rules}
 use borrow.Author.Tests.{le-leb, lt-leb}
 use lib.Dec.{leb}
 use Rattle.layout.specs.Refusal.{Tested, passed, row, first}
 use Rattle.layout.proofs.Rows.{first_here, first_skip, refused_before, passed_before}
 use Rattle.table.specs.Bytes.{state_count}
 use Rattle.table.specs.Rows.{count_rows, entry_rows, look_rows}
-use Rattle.table.specs.Check.{says}
-use Rattle.table.proofs.Answers.{states_passed}
 use Rattle.table.proofs.Checked.{passed_counts}
-use Rattle.table.proofs.look.Goals.{In-States}
 use Rattle.table.proofs.look.Goals as goal
-
-counts : (c : In-States) → (first (count_rows c.args.bytes.now) ≡ passed) × (c.counts-in-States-1.given.0.0 ≡ state_count c.args.bytes.now)
-counts c = states_passed c.args.bytes.now c.test_counts-counts.ensures c.counts-in-States-1.given.1
 
 -- what the rows of the state and its entry say is the answer
 rest_decides : (b : List ℕ) (s : ℕ) {t : Tested} → first (count_rows b) ≡ passed → first (row 12 (leb (state_count b) s) 0 ∷ entry_rows b s) ≡ t → t ≡ first (look_rows b s)
@@ -25,28 +18,28 @@ rest_decides b s p e = sym (passed_before (count_rows b) (row 12 (leb (state_cou
 
 pub returns-then-n-s : goal.returns-then-n-s
 returns-then-n-s c =
-    let (p, e) = counts (goal.at.returns-then-n-s c).In-States in
+    let (p, e) = c.in-States.ensures in
     let b = c.args.bytes.now in
     let s = c.args.state in
-    record { refusal = rest_decides b s p (first_here 12 0 _ _ (le-leb (state_count b) s (omega arith))); moves = tt }
+    record { refusal = rest_decides b s (sym p) (first_here 12 0 _ _ (le-leb (state_count b) s (omega arith))); moves = tt }
 
 pub entry_of-requires : goal.entry_of-requires
 entry_of-requires c =
-    let (p, e) = counts (goal.at.entry_of-requires c).In-States in
-    let k = passed_counts c.args.bytes.now p in
+    let (p, e) = c.in-States.ensures in
+    let k = passed_counts c.args.bytes.now (sym p) in
     (e, omega arith, omega arith)
 
 pub returns-in-Refused : goal.returns-in-Refused
 returns-in-Refused c =
     let b = c.args.bytes.now in
     let s = c.args.state in
-    let r = sym c.test_counts-counts.ensures.0 ∙ ap says c.counts-1.given.1 in
+    let r = sym c.in-Refused.ensures.0 in
     record { refusal = sym (refused_before (count_rows b) (row 12 (leb (state_count b) s) 0 ∷ entry_rows b s) r); moves = tt }
 
 pub returns-else-n-s : goal.returns-else-n-s
 returns-else-n-s c =
-    let (p, e) = counts (goal.at.returns-else-n-s c).In-States in
+    let (p, e) = c.in-States.ensures in
     let b = c.args.bytes.now in
     let s = c.args.state in
     let (r, m) = c.entry_of.ensures in
-    record { refusal = r ∙ rest_decides b s p (first_skip 12 0 _ _ (lt-leb (state_count b) s (omega arith))); moves = m }
+    record { refusal = r ∙ rest_decides b s (sym p) (first_skip 12 0 _ _ (lt-leb (state_count b) s (omega arith))); moves = m }

@@ -1,12 +1,7 @@
 -- `table::test_entries`: the rows of all entries are those from the current state on. Assumes nothing.
-use mathlib.Core.Path.{◌≡◌, sym, ap, ◌∙◌}
-use Prim.Native.Nat.{◌-◌, ◌≤◌}
+use mathlib.Core.Path.{sym, ◌∙◌}
 use native.Mathlib.Nat.{sub-zero}
 use native.Mathlib.Omega.{arith}
-use borrow.Author.Rules.{rules}
-use Rattle.layout.specs.Refusal.{first}
-use Rattle.table.specs.Rows.{entries_rows}
-use Rattle.table.specs.Check.{look_says}
 use Rattle.table.proofs.Turns.{entries_refused, entries_go_on, entries_end}
 use Rattle.table.proofs.test_entries.Goals as goal
 
@@ -15,19 +10,13 @@ loop-state-init c = (omega arith, rw sub-zero)
 
 pub returns-in-Refused : goal.returns-in-Refused
 returns-in-Refused c =
-    let e = c.entry_of-entry in
     let a = c.args in
-    let b = a.bytes.now in
-    let r = sym e.ensures.0 ∙ ap look_says c.entry-1.given.1 in
-    (sym (c.loop-state.invariant.1 ∙ entries_refused b a.n c.loop-state.state (omega arith) r), tt)
+    (sym (c.loop-state.invariant.1 ∙ entries_refused a.bytes.now a.n c.loop-state.state (omega arith) (sym c.in-Refused.ensures.0)), tt)
 
 pub loop-state-preserved : goal.loop-state-preserved
 loop-state-preserved c =
-    let e = c.entry_of-entry in
     let a = c.args in
-    let b = a.bytes.now in
-    let r = sym e.ensures.0 ∙ ap look_says c.enum_told-1.given.1 in
-    (omega arith, c.loop-state.invariant.1 ∙ entries_go_on b a.n c.loop-state.state (omega arith) r)
+    (omega arith, c.loop-state.invariant.1 ∙ entries_go_on a.bytes.now a.n c.loop-state.state (omega arith) (sym c.in_default.ensures.0))
 
 pub returns : goal.returns
 returns c =

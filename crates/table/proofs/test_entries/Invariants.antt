@@ -1,13 +1,8 @@
 -- `table::test_entries`: the rows of all entries are those from the current state on. Assumes nothing.
-use mathlib.Core.Path.{◌≡◌, sym, ap, ◌∙◌}
+use mathlib.Core.Path.{◌≡◌}
 use Prim.Native.Nat.{◌-◌, ◌≤◌}
-use native.Mathlib.Nat.{sub-zero}
-use native.Mathlib.Omega.{arith}
-use borrow.Author.Rules.{rules}
 use Rattle.layout.specs.Refusal.{first}
 use Rattle.table.specs.Rows.{entries_rows}
-use Rattle.table.specs.Check.{look_says}
-use Rattle.table.proofs.Turns.{entries_refused, entries_go_on, entries_end}
 use Rattle.table.proofs.test_entries.Given as goal
 
 abbrev pub invariant-loop-state : goal.invariant-loop-state
