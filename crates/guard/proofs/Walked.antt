@@ -1,5 +1,5 @@
 -- A guard that is told outcomes walks them and counts them: it is lost exactly when they can't be walked, and keeps the state and the outcomes from before the miss that lost it. Over any number of outcomes held. Assumes nothing.
-use mathlib.Core.Path.{◌≡◌, refl, sym, ap, subst, ◌∙◌}
+use mathlib.Core.Path.{◌≡◌, refl, sym, ap, ◌∙◌}
 use mathlib.Core.Logic.{◌↔◌}
 use mathlib.Core.Option.{Option, none, some, none-ne-some}
 use mathlib.Core.Bool.{Bool, true, false, cond, true≢false}

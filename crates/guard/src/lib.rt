@@ -2,6 +2,7 @@
 // Starting refuses by 10 to 12; ask and tell by 10, 11 and what of 12 concerns the guard's state, tell then by 13 and 17.
 // The row's calls refuse by 14 first.
 #![tactic(auto)]
+
 ghost use Rattle.std.specs.Prelude.{◌≡◌, false, [], ◌∷◌, ◌+◌, ◌<◌};
 ghost use Rattle.table.specs.Shared.{passed};
 ghost use Rattle.table.specs.Check.{move_by};

@@ -1,9 +1,6 @@
 -- `latest_of`: a copy of the outcomes in which each takes the place before it, and the new one follows. Assumes nothing.
-use Prim.Native.Nat.{◌-◌, ◌≤◌}
 use native.Mathlib.Omega.{arith}
-use borrow.Author.Rules.{rules}
-use Rattle.guard.specs.Guard.{held}
-use Rattle.guard.proofs.Latest.{Followed, followed_none, followed_one, followed_all}
+use Rattle.guard.proofs.Latest.{followed_none, followed_one, followed_all}
 use Rattle.guard.proofs.latest_of.Goals as goal
 
 pub loop-i-init : goal.loop-i-init
@@ -13,10 +10,10 @@ pub loop-i-preserved : goal.loop-i-preserved
 loop-i-preserved c =
     let l = c.loop-i in
     let a = c.args in
-    (omega arith, followed_one a.outcomes a.hit l.after l.i (omega (arith, c.well-formed.0)) l.invariant.1)
+    (omega arith, followed_one a.outcomes a.hit l.after l.i (omega (arith, c.well_formed.0)) l.invariant.1)
 
 pub returns : goal.returns
 returns c =
     let l = c.loop-i in
     let a = c.args in
-    followed_all a.outcomes a.hit l.after l.i (omega (arith, c.well-formed.0)) l.invariant.1
+    followed_all a.outcomes a.hit l.after l.i (omega (arith, c.well_formed.0)) l.invariant.1

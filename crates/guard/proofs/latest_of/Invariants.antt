@@ -1,9 +1,7 @@
 -- `latest_of`: a copy of the outcomes in which each takes the place before it, and the new one follows. Assumes nothing.
 use Prim.Native.Nat.{◌-◌, ◌≤◌}
-use native.Mathlib.Omega.{arith}
-use borrow.Author.Rules.{rules}
 use Rattle.guard.specs.Guard.{held}
-use Rattle.guard.proofs.Latest.{Followed, followed_none, followed_one, followed_all}
+use Rattle.guard.proofs.Latest.{Followed}
 use Rattle.guard.proofs.latest_of.Given as goal
 
 abbrev pub invariant-loop-i : goal.invariant-loop-i

@@ -2,7 +2,6 @@
 use mathlib.Core.Path.{◌≡◌, sym, ap, ◌∙◌}
 use mathlib.Core.List.{List}
 use Prim.Native.Nat.{ℕ}
-use borrow.Author.Rules.{rules}
 use Rattle.table.specs.Shared.{first}
 use Rattle.table.specs.Rows.{table_rows}
 use Rattle.guard.specs.declared.Guard.{Guard}
@@ -19,10 +18,10 @@ by_answer b g started e = ap (λ t. anew_when t g) (sym (ap start_says e) ∙ st
 pub returns-in_default : goal.returns-in_default
 returns-in_default c =
     let a = c.args in
-    record { refusal = c.start-started.ensures.refusal; guard = by_answer a.table.now a.self c.start-started.ensures c.enum_told-in_default-1.given.1 }
+    record { refusal = c.start-started.ensures.refusal; guard = by_answer a.table.now a.self c.start-started.ensures c.in_default.is }
 
 pub returns : goal.returns
 returns c =
     let a = c.args in
     let e = c.start-started.ensures in
-    record { refusal = e.refusal; guard = e.guard ∙ by_answer a.table.now a.self e c.enum_told-1.given.1 }
+    record { refusal = e.refusal; guard = e.guard ∙ by_answer a.table.now a.self e c.in-Started.is }

@@ -1,6 +1,5 @@
 -- `Guard::answer`: each case by the tests that led there; a guard that may miss has a state to miss into. Assumes nothing.
 use mathlib.Core.Path.{refl}
-use borrow.Author.Rules.{rules}
 use Rattle.guard.proofs.Guard.answer.Goals as goal
 
 pub returns-then-moves : goal.returns-then-moves

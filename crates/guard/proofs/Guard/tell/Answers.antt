@@ -4,13 +4,12 @@ use mathlib.Core.List.{List, [], ◌∷◌}
 use Prim.Native.Nat.{ℕ, ◌≤◌}
 use borrow.Author.Tests.{lt-ltb, le-ltb, le-leb, lt-leb}
 use lib.Dec.{leb, ltb}
-use borrow.Author.Rules.{rules}
 use Rattle.table.specs.Shared.{row, passed, first, outcome}
 use Rattle.table.specs.Bytes.{machine_of}
 use Rattle.table.specs.Rows.{look_rows}
 use Rattle.table.specs.Check.{move_by}
 use Rattle.table.proofs.Shared.{first_here, first_skip, refused_before, passed_before}
-use Rattle.table.proofs.Answers.{looked_moves, looked_refused, moves_are_next}
+use Rattle.table.proofs.Answers.{moves_are_next}
 use Rattle.guard.specs.declared.Guard.{Guard}
 use Rattle.guard.specs.declared.TellAnswer.{TellAnswer}
 use Rattle.guard.specs.declared.TellAnswer.TheVariants as tell
@@ -32,21 +31,21 @@ module _ (b : List ℕ) (g : Guard) (byte : ℕ) where
 pub returns-then-outcome-gt1 : goal.returns-then-outcome-gt1
 returns-then-outcome-gt1 c =
     let a = c.args in
-    let (p, e) = looked_moves a.table.now a.self.state c.look-looked.ensures c.looked-in-Moves-1.given.1 in
+    let p = sym c.in-Moves.ensures.refusal in
     decided a.table.now a.self a.outcome (tell.Refused 13 0)
     (looked a.table.now a.self a.outcome p ∙ first_here 13 0 _ _ (lt-ltb _ _ c.if-outcome-gt1.true))
 
 pub returns-then-self-ge-MOST_TOLD : goal.returns-then-self-ge-MOST_TOLD
 returns-then-self-ge-MOST_TOLD c =
     let a = c.args in
-    let (p, e) = looked_moves a.table.now a.self.state c.look-looked.ensures c.looked-in-Moves-1.given.1 in
+    let p = sym c.in-Moves.ensures.refusal in
     decided a.table.now a.self a.outcome (tell.Refused 17 0)
     (heeded a.table.now a.self a.outcome p c.if-outcome-gt1.false ∙ first_here 17 0 _ _ (le-leb _ _ c.if-self-ge-MOST_TOLD.true))
 
 pub returns-in-Refused : goal.returns-in-Refused
 returns-in-Refused c =
     let a = c.args in
-    let r = looked_refused a.table.now a.self.state c.look-looked.ensures c.looked-1.given.1 in
+    let r = sym c.in-Refused.ensures.refusal in
     decided a.table.now a.self a.outcome (tell.Refused _ _) (refused_before _ _ r)
 
 pub returns-else-self-ge-MOST_TOLD : goal.returns-else-self-ge-MOST_TOLD
@@ -55,7 +54,8 @@ returns-else-self-ge-MOST_TOLD c =
     let a = c.args in
     let b = a.table.now in
     let o = outcome a.outcome in
-    let (p, e) = looked_moves b a.self.state c.look-looked.ensures c.looked-in-Moves-1.given.1 in
+    let p = sym c.in-Moves.ensures.refusal in
+    let e = c.in-Moves.ensures.moves in
     let f = c.moved-guard.ensures ∙ ap (λ m. after_by (move_by m o) a.self o) e ∙ ap (λ n. after_by n a.self o) (moves_are_next b a.self.state o) in
     let d = decided b a.self a.outcome tell.Told (heeded b a.self a.outcome p c.if-outcome-gt1.false ∙ first_skip 17 0 (leb most_told a.self.count) [] (lt-leb _ _ c.if-self-ge-MOST_TOLD.false)) in
     record { refusal = d.refusal; guard = f ∙ d.guard }

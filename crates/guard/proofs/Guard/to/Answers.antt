@@ -1,7 +1,6 @@
 -- `Guard::to`: by what `latest_of` gives. Assumes nothing.
 use mathlib.Core.Path.{ap}
 use Prim.Native.Nat.{◌+◌}
-use borrow.Author.Rules.{rules}
 use Rattle.guard.specs.Guard.{standing}
 use Rattle.guard.proofs.Guard.to.Goals as goal
 
