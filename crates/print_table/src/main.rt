@@ -1,12 +1,34 @@
 // Reads the bytes of a set of limits from standard input and prints its table, or one line for a refusal.
 // What is printed is `printing::print_input`'s, which asks for buffers of these sizes; here it is only read and written.
+// A read or a write that fails ends it with that error.
 #![tactic(auto)]
-fn main() {
+
+ghost use Rattle.std.specs.Io.{ReadsAtMost};
+
+use std::io;
+use std::io::Read;
+
+// Reads until `buf` is full or the input ends, and says how many bytes were read.
+fn read_full(reader: &mut impl Read, buf: &mut [u8]) -> io::Result<usize>
+    ensures { ReadsAtMost result buf.new }
+{
+    let mut done = 0;
+    while done < buf.len() {
+        let n = reader.read(&mut buf[done..])?;
+        if n == 0 {
+            break;
+        }
+        done += n;
+    }
+    Ok(done)
+}
+
+fn main(rt: HostRuntime) -> io::Result<()> {
     let mut input = [0u8; 65];
     let mut work = [0u16; 8192];
     let mut table = [0u8; 8199];
     let mut text = [0u8; printing::LONGEST_TEXT];
-    let size = io::read_full(libc::STDIN_FILENO, &mut input);
+    let size = read_full(&mut rt.stdin(), &mut input)?;
     let length = printing::print_input(&input, size, &mut work, &mut table, &mut text);
-    io::write_all(libc::STDOUT_FILENO, &text[..length]);
+    rt.write_all(&text[..length])
 }

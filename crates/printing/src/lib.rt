@@ -2,6 +2,7 @@
 // The text goes into a lent buffer and is cut at its end; LONGEST_TEXT bytes hold the text of every set.
 // An input of more than 64 bytes is refusal 1, whatever it holds; any other is refused as by the builder.
 #![tactic(auto)]
+
 mod lines;
 mod put;
 

@@ -7,179 +7,181 @@ use guard::{AskAnswer, Guard, HELD, StartAnswer, TellAnswer};
 use layout::WriteAnswer;
 use meaning::{Limit, LimitSet};
 use night_log::{LogAnswer, OpenAnswer};
+use std::io;
 use table::TableAnswer;
 
-fn print_limit(limit: Limit, first: bool) {
+fn print_limit(rt: &impl Print, limit: Limit, first: bool) -> io::Result<()> {
     if !first {
-        text::print(b",");
+        text::print(rt, b",")?;
     }
-    text::print(b" ");
-    text::print_number(limit.kind as u64);
-    text::print(b" ");
-    text::print_number(limit.x as u64);
-    text::print(b" ");
-    text::print_number(limit.k as u64);
+    text::print(rt, b" ")?;
+    text::print_number(rt, limit.kind as u64)?;
+    text::print(rt, b" ")?;
+    text::print_number(rt, limit.x as u64)?;
+    text::print(rt, b" ")?;
+    text::print_number(rt, limit.k as u64)
 }
 
-fn print_limits(set: LimitSet) {
+fn print_limits(rt: &impl Print, set: LimitSet) -> io::Result<()> {
     let count = set.count;
     let mut i = 0;
     while i < 8 {
         if i == count {
-            return;
+            return Ok(());
         }
         let limit = set.limits[i];
-        print_limit(limit, i == 0);
+        print_limit(rt, limit, i == 0)?;
         i += 1;
     }
+    Ok(())
 }
 
 // As `accepted 2: 0 2 4, 3 2 0`.
-pub(crate) fn print_read(read: sets::SetRead) {
+pub(crate) fn print_read(rt: &impl Print, read: sets::SetRead) -> io::Result<()> {
     let answer = read.answer;
     if let sets::SetAnswer::Refused { number, at } = answer {
-        text::print_refusal(number, at);
-        return;
+        return text::print_refusal(rt, number, at);
     }
     let set = read.set;
-    text::print(b"accepted ");
-    text::print_number(set.count as u64);
-    text::print(b":");
-    print_limits(set);
+    text::print(rt, b"accepted ")?;
+    text::print_number(rt, set.count as u64)?;
+    text::print(rt, b":")?;
+    print_limits(rt, set)
 }
 
 // As `written 9`; says how many bytes were written.
-pub(crate) fn print_written(written: WriteAnswer) -> usize {
+pub(crate) fn print_written(rt: &impl Print, written: WriteAnswer) -> io::Result<usize> {
     match written {
         WriteAnswer::Written(size) => {
-            text::print(b"written ");
-            text::print_number(size as u64);
-            size
+            text::print(rt, b"written ")?;
+            text::print_number(rt, size as u64)?;
+            Ok(size)
         }
         WriteAnswer::Refused { number, at } => {
-            text::print_refusal(number, at);
-            0
+            text::print_refusal(rt, number, at)?;
+            Ok(0)
         }
     }
 }
 
 // As `lost at 4 by limit 0 from 3`, or from -1 where the window begins before the pattern.
-fn print_lost(job: u64, limit: usize, first: i64) {
-    text::print(b"lost at ");
-    text::print_number(job);
-    text::print(b" by limit ");
-    text::print_number(limit as u64);
-    text::print(b" from ");
-    text::print_signed(first);
+fn print_lost(rt: &impl Print, job: u64, limit: usize, first: i64) -> io::Result<()> {
+    text::print(rt, b"lost at ")?;
+    text::print_number(rt, job)?;
+    text::print(rt, b" by limit ")?;
+    text::print_number(rt, limit as u64)?;
+    text::print(rt, b" from ")?;
+    text::print_signed(rt, first)
 }
 
-pub(crate) fn print_judgement(judgement: verdict::Judgement) {
+pub(crate) fn print_judgement(rt: &impl Print, judgement: verdict::Judgement) -> io::Result<()> {
     match judgement {
-        verdict::Judgement::Kept => text::print(b"kept"),
-        verdict::Judgement::Lost { job, limit, first } => print_lost(job, limit, first),
-        verdict::Judgement::Refused { number, at } => text::print_refusal(number, at),
+        verdict::Judgement::Kept => text::print(rt, b"kept"),
+        verdict::Judgement::Lost { job, limit, first } => print_lost(rt, job, limit, first),
+        verdict::Judgement::Refused { number, at } => text::print_refusal(rt, number, at),
     }
 }
 
 // As `between 0011100`.
-fn print_between(pattern: compare::Pattern) {
-    text::print(b"between ");
+fn print_between(rt: &impl Print, pattern: compare::Pattern) -> io::Result<()> {
+    text::print(rt, b"between ")?;
     let outcomes = pattern.outcomes;
-    text::print_outcomes(&outcomes, pattern.length);
+    text::print_outcomes(rt, &outcomes, pattern.length)
 }
 
 // As `refused 3 at 0 in set 1`.
-fn print_refused_set(which: u8, number: u8, at: usize) {
-    text::print_refusal(number, at);
-    text::print(b" in set ");
-    text::print_number(which as u64);
+fn print_refused_set(rt: &impl Print, which: u8, number: u8, at: usize) -> io::Result<()> {
+    text::print_refusal(rt, number, at)?;
+    text::print(rt, b" in set ")?;
+    text::print_number(rt, which as u64)
 }
 
-pub(crate) fn print_compared(compared: compare::Compared) {
+pub(crate) fn print_compared(rt: &impl Print, compared: compare::Compared) -> io::Result<()> {
     let answer = compared.answer;
     match answer {
-        CompareAnswer::Covers => text::print(b"covers"),
-        CompareAnswer::Between => print_between(compared.pattern),
-        CompareAnswer::Refused { which, number, at } => print_refused_set(which, number, at),
+        CompareAnswer::Covers => text::print(rt, b"covers"),
+        CompareAnswer::Between => print_between(rt, compared.pattern),
+        CompareAnswer::Refused { which, number, at } => print_refused_set(rt, which, number, at),
     }
 }
 
 // As `states 3`.
-pub(crate) fn print_checked(answer: TableAnswer) {
+pub(crate) fn print_checked(rt: &impl Print, answer: TableAnswer) -> io::Result<()> {
     match answer {
         TableAnswer::States(n) => {
-            text::print(b"states ");
-            text::print_number(n as u64);
+            text::print(rt, b"states ")?;
+            text::print_number(rt, n as u64)
         }
-        TableAnswer::Refused { number, at } => text::print_refusal(number, at),
+        TableAnswer::Refused { number, at } => text::print_refusal(rt, number, at),
     }
 }
 
-pub(crate) fn print_opened(answer: OpenAnswer) {
+pub(crate) fn print_opened(rt: &impl Print, answer: OpenAnswer) -> io::Result<()> {
     match answer {
-        OpenAnswer::Opened => text::print(b"opened"),
-        OpenAnswer::Refused { number, at } => text::print_refusal(number, at),
+        OpenAnswer::Opened => text::print(rt, b"opened"),
+        OpenAnswer::Refused { number, at } => text::print_refusal(rt, number, at),
     }
 }
 
 // An outcome as its digit.
-pub(crate) fn print_handed(answer: LogAnswer) {
+pub(crate) fn print_handed(rt: &impl Print, answer: LogAnswer) -> io::Result<()> {
     match answer {
-        LogAnswer::Miss => text::print(b"0"),
-        LogAnswer::Hit => text::print(b"1"),
-        LogAnswer::End => text::print(b"end"),
-        LogAnswer::Refused { number, at } => text::print_refusal(number, at),
+        LogAnswer::Miss => text::print(rt, b"0"),
+        LogAnswer::Hit => text::print(rt, b"1"),
+        LogAnswer::End => text::print(rt, b"end"),
+        LogAnswer::Refused { number, at } => text::print_refusal(rt, number, at),
     }
 }
 
 // As `place 3`.
-pub(crate) fn print_place(place: usize) {
-    text::print(b"place ");
-    text::print_number(place as u64);
+pub(crate) fn print_place(rt: &impl Print, place: usize) -> io::Result<()> {
+    text::print(rt, b"place ")?;
+    text::print_number(rt, place as u64)
 }
 
 // The word is `started`, or `carried` where a guard was read back.
-pub(crate) fn print_started(answer: StartAnswer, word: &[u8]) {
+pub(crate) fn print_started(rt: &impl Print, answer: StartAnswer, word: &[u8]) -> io::Result<()> {
     match answer {
-        StartAnswer::Started => text::print(word),
-        StartAnswer::Refused { number, at } => text::print_refusal(number, at),
+        StartAnswer::Started => text::print(rt, word),
+        StartAnswer::Refused { number, at } => text::print_refusal(rt, number, at),
     }
 }
 
-pub(crate) fn print_asked(answer: AskAnswer) {
+pub(crate) fn print_asked(rt: &impl Print, answer: AskAnswer) -> io::Result<()> {
     match answer {
-        AskAnswer::Normal => text::print(b"normal"),
-        AskAnswer::Panic => text::print(b"panic"),
-        AskAnswer::Lost => text::print(b"lost"),
-        AskAnswer::Refused { number, at } => text::print_refusal(number, at),
+        AskAnswer::Normal => text::print(rt, b"normal"),
+        AskAnswer::Panic => text::print(rt, b"panic"),
+        AskAnswer::Lost => text::print(rt, b"lost"),
+        AskAnswer::Refused { number, at } => text::print_refusal(rt, number, at),
     }
 }
 
-pub(crate) fn print_told(answer: TellAnswer) {
+pub(crate) fn print_told(rt: &impl Print, answer: TellAnswer) -> io::Result<()> {
     match answer {
-        TellAnswer::Told => text::print(b"told"),
-        TellAnswer::Refused { number, at } => text::print_refusal(number, at),
+        TellAnswer::Told => text::print(rt, b"told"),
+        TellAnswer::Refused { number, at } => text::print_refusal(rt, number, at),
     }
 }
 
-fn print_held(outcomes: [bool; HELD]) {
+fn print_held(rt: &impl Print, outcomes: [bool; HELD]) -> io::Result<()> {
     let mut i = 0;
     while i < HELD {
-        text::print_outcome(outcomes[i]);
+        text::print_outcome(rt, outcomes[i])?;
         i += 1;
     }
+    Ok(())
 }
 
 // As `state 1 lost, told 3, holds 111111111111110`; `lost` only where it is.
-pub(crate) fn print_guard(guard: Guard) {
-    text::print(b"state ");
-    text::print_number(guard.state as u64);
+pub(crate) fn print_guard(rt: &impl Print, guard: Guard) -> io::Result<()> {
+    text::print(rt, b"state ")?;
+    text::print_number(rt, guard.state as u64)?;
     if guard.lost {
-        text::print(b" lost");
+        text::print(rt, b" lost")?;
     }
-    text::print(b", told ");
-    text::print_number(guard.count);
-    text::print(b", holds ");
+    text::print(rt, b", told ")?;
+    text::print_number(rt, guard.count)?;
+    text::print(rt, b", holds ")?;
     let outcomes = guard.outcomes;
-    print_held(outcomes);
+    print_held(rt, outcomes)
 }

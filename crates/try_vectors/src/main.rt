@@ -5,7 +5,9 @@
 // `t TABLE` checks a table. `g TABLE ACTIONS` drives a guard with nothing told; `h TABLE STATE LOST OUTCOMES COUNT ACTIONS` drives one made by hand.
 // `p SET TABLE ACTIONS` drives one through changes of the battery. `k SET STATE LOST OUTCOMES COUNT SIZE` writes a record; `b RECORD TABLE ACTIONS` reads one back and drives its guard.
 #![tactic(auto)]
+
 ghost use Rattle.std.specs.Prelude.{◌≡◌, length};
+ghost use Rattle.std.specs.Io.{ReadsAtMost};
 
 mod actions;
 mod answers;
@@ -18,130 +20,134 @@ mod memory;
 mod tables;
 mod text;
 
+use std::io;
+use std::io::Read;
+
 // The answer to a vector on sets of limits and patterns, and whether there was such a command.
-fn answer_limits(line: &[u8], command: u8) -> bool {
+fn answer_limits(rt: &impl Print, line: &[u8], command: u8) -> io::Result<bool> {
     if command == b'r' {
-        limits::try_read(line);
-        return true;
+        limits::try_read(rt, line)?;
+        return Ok(true);
     }
     if command == b'w' {
-        limits::try_write(line);
-        return true;
+        limits::try_write(rt, line)?;
+        return Ok(true);
     }
     if command == b'm' {
-        memory::write_from(fields::field(line, 1), fields::field(line, 2));
-        return true;
+        memory::write_from(rt, fields::field(line, 1), fields::field(line, 2))?;
+        return Ok(true);
     }
     if command == b'j' {
-        limits::try_judge(line);
-        return true;
+        limits::try_judge(rt, line)?;
+        return Ok(true);
     }
     if command == b'c' {
-        limits::try_compare(line);
-        return true;
+        limits::try_compare(rt, line)?;
+        return Ok(true);
     }
-    false
+    Ok(false)
 }
 
 // The same for vectors on night logs.
-fn answer_logs(line: &[u8], command: u8) -> bool {
+fn answer_logs(rt: &impl Print, line: &[u8], command: u8) -> io::Result<bool> {
     if command == b'l' {
-        logs::try_write(line);
-        return true;
+        logs::try_write(rt, line)?;
+        return Ok(true);
     }
     if command == b'o' {
-        logs::try_open(line);
-        return true;
+        logs::try_open(rt, line)?;
+        return Ok(true);
     }
     if command == b'n' {
-        logs::try_at(line);
-        return true;
+        logs::try_at(rt, line)?;
+        return Ok(true);
     }
     if command == b'a' {
-        logs::try_calls(line);
-        return true;
+        logs::try_calls(rt, line)?;
+        return Ok(true);
     }
     if command == b'v' {
-        logs::try_judge(line);
-        return true;
+        logs::try_judge(rt, line)?;
+        return Ok(true);
     }
-    false
+    Ok(false)
 }
 
 // The same for vectors on tables and guards.
-fn answer_guards(line: &[u8], command: u8) -> bool {
+fn answer_guards(rt: &impl Print, line: &[u8], command: u8) -> io::Result<bool> {
     if command == b't' {
-        tables::try_check(line);
-        return true;
+        tables::try_check(rt, line)?;
+        return Ok(true);
     }
     if command == b'g' {
-        guards::try_new(line);
-        return true;
+        guards::try_new(rt, line)?;
+        return Ok(true);
     }
     if command == b'h' {
-        guards::try_by_hand(line);
-        return true;
+        guards::try_by_hand(rt, line)?;
+        return Ok(true);
     }
-    false
+    Ok(false)
 }
 
 // The same for vectors on records and changes of the battery.
-fn answer_carries(line: &[u8], command: u8) -> bool {
+fn answer_carries(rt: &impl Print, line: &[u8], command: u8) -> io::Result<bool> {
     if command == b'p' {
-        carries::try_changes(line);
-        return true;
+        carries::try_changes(rt, line)?;
+        return Ok(true);
     }
     if command == b'k' {
-        carries::try_write(line);
-        return true;
+        carries::try_write(rt, line)?;
+        return Ok(true);
     }
     if command == b'b' {
-        carries::try_read(line);
-        return true;
+        carries::try_read(rt, line)?;
+        return Ok(true);
     }
-    false
+    Ok(false)
 }
 
-fn answer(line: &[u8], command: u8) {
-    text::print(b" = ");
-    if answer_limits(line, command) {
-        return;
+fn answer(rt: &impl Print, line: &[u8], command: u8) -> io::Result<()> {
+    text::print(rt, b" = ")?;
+    if answer_limits(rt, line, command)? {
+        return Ok(());
     }
-    if answer_logs(line, command) {
-        return;
+    if answer_logs(rt, line, command)? {
+        return Ok(());
     }
-    if answer_guards(line, command) {
-        return;
+    if answer_guards(rt, line, command)? {
+        return Ok(());
     }
-    if answer_carries(line, command) {
-        return;
+    if answer_carries(rt, line, command)? {
+        return Ok(());
     }
-    text::print(b"no such command");
+    text::print(rt, b"no such command")
 }
 
-fn try_line(line: &[u8]) {
-    text::print(line);
+fn try_line(rt: &impl Print, line: &[u8]) -> io::Result<()> {
+    text::print(rt, line)?;
     if line.len() == 0 {
-        return;
+        return Ok(());
     }
     let command = line[0];
     if command == b'#' {
-        return;
+        return Ok(());
     }
-    answer(line, command);
+    answer(rt, line, command)
 }
 
-fn run(lines: &[u8]) {
+fn run(rt: &impl Print, lines: &[u8]) -> io::Result<()> {
     let mut at = 0;
     while at < lines.len() {
         let end = fields::find(lines, b'\n', at);
-        try_line(&lines[at..end]);
-        text::print_line_end();
+        try_line(rt, &lines[at..end])?;
+        text::print_line_end(rt)?;
         if end == lines.len() {
-            return;
+            return Ok(());
         }
         at = end + 1;
     }
+    Ok(())
 }
 
 // 131,072 zeros, into which the vectors are read.
@@ -151,8 +157,23 @@ fn input() -> [u8; 131072]
     [0; 131072]
 }
 
-fn main() {
+// Reads until `buf` is full or the input ends, and says how many bytes were read.
+fn read_full(reader: &mut impl Read, buf: &mut [u8]) -> io::Result<usize>
+    ensures { ReadsAtMost result buf.new }
+{
+    let mut done = 0;
+    while done < buf.len() {
+        let n = reader.read(&mut buf[done..])?;
+        if n == 0 {
+            break;
+        }
+        done += n;
+    }
+    Ok(done)
+}
+
+fn main(rt: HostRuntime) -> io::Result<()> {
     let mut lines = input();
-    let n = io::read_full(libc::STDIN_FILENO, &mut lines);
-    run(&lines[..n]);
+    let n = read_full(&mut rt.stdin(), &mut lines)?;
+    run(&rt, &lines[..n])
 }

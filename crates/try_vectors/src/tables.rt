@@ -4,6 +4,7 @@ ghost use Rattle.std.specs.Prelude.{◌≡◌, length};
 ghost use Rattle.io.specs.Counts.{IsPrefixLen};
 
 use crate::{answers, fields};
+use std::io;
 
 // Zeros, as many as a table has bytes that has a state more than is allowed.
 pub(crate) fn zeros() -> [u8; 131083]
@@ -50,8 +51,8 @@ pub(crate) fn put(field: &[u8], out: &mut [u8]) -> usize
     put_alike(number_of(&field[1..]), out)
 }
 
-pub(crate) fn try_check(line: &[u8]) {
+pub(crate) fn try_check(rt: &impl Print, line: &[u8]) -> io::Result<()> {
     let mut space = zeros();
     let n = put(fields::field(line, 1), &mut space);
-    answers::print_checked(table::check_table(&space[..n]));
+    answers::print_checked(rt, table::check_table(&space[..n]))
 }
