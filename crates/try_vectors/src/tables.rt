@@ -1,7 +1,6 @@
 // The table that a vector's field gives, and the check of it.
 // A field holds a table's bytes or, since a line is too short for the largest, `z` and n in four digits: n states that all lead to state 0.
-ghost use Rattle.std.specs.Prelude.{◌≡◌, length};
-ghost use Rattle.io.specs.Counts.{IsPrefixLen};
+ghost use Rattle.std.specs.Prelude.{◌≡◌, ◌≤◌, length, take};
 
 use crate::{answers, fields};
 use std::io;
@@ -23,7 +22,8 @@ pub(crate) fn number_of(field: &[u8]) -> u16 {
 
 // The beginning of a table of n states; its entries are the zeros that are there.
 fn put_alike(n: u16, out: &mut [u8]) -> usize
-    ensures { IsPrefixLen result out.new }
+    ensures within { result ≤ length out.new }
+    ensures prefix { result ≡ length (take result out.new) }
 {
     let rest = 3 + 4 * (n as usize);
     if out.len() < 4 + rest {
@@ -40,7 +40,8 @@ fn put_alike(n: u16, out: &mut [u8]) -> usize
 
 // Puts the table at the start of `out`, which holds zeros, and says how many bytes it has.
 pub(crate) fn put(field: &[u8], out: &mut [u8]) -> usize
-    ensures { IsPrefixLen result out.new }
+    ensures within { result ≤ length out.new }
+    ensures prefix { result ≡ length (take result out.new) }
 {
     if field.len() == 0 {
         return 0;

@@ -1,12 +1,9 @@
--- `try_vectors::run` is safe and ends: a line's end is not before its start, and the next line starts after it. Assumes nothing.
-use Prim.Native.Nat.{◌≤◌, ◌-◌}
-use native.Mathlib.Omega.{arith}
-use borrow.Author.Rules.{rules}
-use lib.ListN.{length}
+-- each turn is at a later line, which begins within the input or at its end
+use Rattle.std.proofs.Common.{length, ◌-◌, ◌≤◌}
 use Rattle.try_vectors.proofs.run.Given as goal
 
 abbrev pub invariant-loop-at : goal.invariant-loop-at
-invariant-loop-at l = l.at ≤ length l.lines
+invariant-loop-at g l = l.at ≤ length l.lines
 
 abbrev pub decreases-loop-at : goal.decreases-loop-at
-decreases-loop-at l = length l.lines - l.at
+decreases-loop-at g l = length l.lines - l.at

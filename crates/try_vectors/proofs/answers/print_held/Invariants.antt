@@ -1,11 +1,9 @@
--- `try_vectors::answers::print_held` is safe and ends: each turn is one outcome further. Assumes nothing.
-use Prim.Native.Nat.{◌≤◌, ◌-◌}
-use borrow.Author.Rules.{rules}
-use Rattle.guard.specs.Guard.{held}
+-- each turn is one outcome further
+use Rattle.std.proofs.Common.{◌-◌, ◌≤◌}
 use Rattle.try_vectors.proofs.answers.print_held.Given as goal
 
 abbrev pub invariant-loop-i : goal.invariant-loop-i
-invariant-loop-i l = l.i ≤ held
+invariant-loop-i g l = l.i ≤ 15
 
 abbrev pub decreases-loop-i : goal.decreases-loop-i
-decreases-loop-i l = held - l.i
+decreases-loop-i g l = 15 - l.i

@@ -1,10 +1,9 @@
--- `try_vectors::answers::print_limits` is safe and ends: there are eight places for limits. Assumes nothing.
-use Prim.Native.Nat.{◌≤◌, ◌-◌}
-use borrow.Author.Rules.{rules}
+-- there are eight places for limits
+use Rattle.std.proofs.Common.{◌-◌, ◌≤◌}
 use Rattle.try_vectors.proofs.answers.print_limits.Given as goal
 
 abbrev pub invariant-loop-i : goal.invariant-loop-i
-invariant-loop-i l = l.i ≤ 8
+invariant-loop-i g l = l.i ≤ 8
 
 abbrev pub decreases-loop-i : goal.decreases-loop-i
-decreases-loop-i l = 8 - l.i
+decreases-loop-i g l = 8 - l.i

@@ -1,10 +1,5 @@
--- `try_vectors::fields::bytes` meets its contract: the places in the field and in the buffer stay within them. Assumes nothing.
-use mathlib.Core.Path.{◌≡◌}
-use Prim.Native.Nat.{◌≤◌, ◌-◌}
-use native.Mathlib.Omega.{arith}
-use borrow.Author.Rules.{rules}
-use lib.ListN.{length, length-set}
-use Rattle.io.proofs.Counting.{prefix_len_of_le}
+-- the places in the field and in the buffer stay within them, and the buffer stays as long as it was
+use Rattle.std.proofs.Common.{length, ◌-◌, ◌≡◌, ◌≤◌}
 use Rattle.try_vectors.proofs.fields.bytes.Given as goal
 
 abbrev pub invariant-loop-n : goal.invariant-loop-n

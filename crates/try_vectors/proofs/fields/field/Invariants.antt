@@ -1,8 +1,5 @@
--- `try_vectors::fields::field` is safe and ends: each turn is one field further, and a field starts within the line. Assumes nothing.
-use Prim.Native.Nat.{◌≤◌, ◌-◌}
-use native.Mathlib.Omega.{arith}
-use borrow.Author.Rules.{rules}
-use lib.ListN.{length}
+-- a field starts within the line, and each turn is one field further
+use Rattle.std.proofs.Common.{length, ◌-◌, ◌≤◌}
 use Rattle.try_vectors.proofs.fields.field.Given as goal
 
 abbrev pub invariant-loop-i : goal.invariant-loop-i

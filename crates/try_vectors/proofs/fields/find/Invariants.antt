@@ -1,7 +1,5 @@
--- `try_vectors::fields::find` meets its contract: the place never falls behind where it began. Assumes nothing.
-use Prim.Native.Nat.{◌≤◌, ◌-◌}
-use borrow.Author.Rules.{rules}
-use lib.ListN.{length}
+-- the place never falls behind where it began
+use Rattle.std.proofs.Common.{length, ◌-◌, ◌≤◌}
 use Rattle.try_vectors.proofs.fields.find.Given as goal
 
 abbrev pub invariant-loop-i : goal.invariant-loop-i

@@ -1,7 +1,5 @@
--- `try_vectors::fields::joined` is safe and ends: each turn is one byte further. Assumes nothing.
-use Prim.Native.Nat.{◌≤◌, ◌-◌}
-use borrow.Author.Rules.{rules}
-use lib.ListN.{length}
+-- each turn is one byte further
+use Rattle.std.proofs.Common.{length, ◌-◌, ◌≤◌}
 use Rattle.try_vectors.proofs.fields.joined.Given as goal
 
 abbrev pub invariant-loop-i : goal.invariant-loop-i

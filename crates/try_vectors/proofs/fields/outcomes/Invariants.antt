@@ -1,10 +1,5 @@
--- `try_vectors::fields::outcomes` meets its contract: the place in the buffer stays within it. Assumes nothing.
-use mathlib.Core.Path.{◌≡◌}
-use Prim.Native.Nat.{◌≤◌, ◌-◌}
-use native.Mathlib.Omega.{arith}
-use borrow.Author.Rules.{rules}
-use lib.ListN.{length, length-set}
-use Rattle.io.proofs.Counting.{prefix_len_of_le}
+-- the place in the buffer stays within it, and the buffer stays as long as it was
+use Rattle.std.proofs.Common.{length, ◌-◌, ◌≡◌, ◌≤◌}
 use Rattle.try_vectors.proofs.fields.outcomes.Given as goal
 
 abbrev pub invariant-loop-n : goal.invariant-loop-n

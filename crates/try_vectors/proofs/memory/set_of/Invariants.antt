@@ -1,6 +1,5 @@
--- `try_vectors::memory::set_of` is safe and ends: there are eight places for limits. Assumes nothing.
-use Prim.Native.Nat.{◌≤◌, ◌-◌}
-use borrow.Author.Rules.{rules}
+-- there are eight places for limits
+use Rattle.std.proofs.Common.{◌-◌, ◌≤◌}
 use Rattle.try_vectors.proofs.memory.set_of.Given as goal
 
 abbrev pub invariant-loop-i : goal.invariant-loop-i
