@@ -10,22 +10,19 @@ ghost use Rattle.flat.specs.Flat.{FlatAnswer, flat_written, flat_started};
 use flat::{FloeStarted, FloeWritten};
 use guard::Guard;
 
-#[unsafe(no_mangle)]
-pub extern "C" fn floe_guard_new() -> Guard
+pub fn floe_guard_new() -> Guard
     ensures { result ≡ fresh }
 {
     Guard::new()
 }
 
-#[unsafe(no_mangle)]
-pub extern "C" fn floe_carry_write(guard: Guard, set: &[u8], out: &mut [u8]) -> FloeWritten
+pub fn floe_carry_write(guard: Guard, set: &[u8], out: &mut [u8]) -> FloeWritten
     ensures { FlatAnswer (RecordWrittenAs longest carried guard set.now out.old out.new) flat_written result }
 {
     flat::written(carry::write_record(guard, set, out))
 }
 
-#[unsafe(no_mangle)]
-pub extern "C" fn floe_carry_read(bytes: &[u8], table: &[u8]) -> FloeStarted
+pub fn floe_carry_read(bytes: &[u8], table: &[u8]) -> FloeStarted
     ensures { FlatAnswer (ReadBackAs longest carried bytes.now table.now) flat_started result }
 {
     let back = carry::read_record(bytes, table);

@@ -1,6 +1,7 @@
 // The C boundary: each function says in a flat record what the library function behind it answers.
-// The records and what they say are `flat`'s.
+// The records and what they say are `flat`'s. `floelinnet_c` exports each function for C.
 #![tactic(auto)]
+
 ghost use Rattle.meaning.specs.Longest.{longest};
 ghost use Rattle.sets.specs.Read.{ReadAs};
 ghost use Rattle.sets.specs.Write.{WrittenAs};
@@ -26,50 +27,43 @@ pub use carries::{floe_carry_read, floe_carry_write, floe_guard_new};
 pub use log::{floe_log_judge, floe_log_next, floe_log_open, floe_log_write};
 pub use row::{floe_row_ask, floe_row_start, floe_row_tell};
 
-#[unsafe(no_mangle)]
-pub extern "C" fn floe_read_set(set: &[u8]) -> FloeSetRead
+pub fn floe_read_set(set: &[u8]) -> FloeSetRead
     ensures { FlatAnswer (ReadAs longest set.now) flat_set result }
 {
     flat::set_read(sets::read_set(set))
 }
 
-#[unsafe(no_mangle)]
-pub extern "C" fn floe_write_set(set: LimitSet, bytes: &mut [u8]) -> FloeWritten
+pub fn floe_write_set(set: LimitSet, bytes: &mut [u8]) -> FloeWritten
     ensures { FlatAnswer (WrittenAs longest set bytes.old bytes.new) flat_written result }
 {
     flat::written(sets::write_set(set, bytes))
 }
 
-#[unsafe(no_mangle)]
-pub extern "C" fn floe_judge(set: &[u8], pattern: &[u8]) -> FloeVerdict
+pub fn floe_judge(set: &[u8], pattern: &[u8]) -> FloeVerdict
     ensures { FlatAnswer (JudgedAs longest set.now pattern.now) flat_verdict result }
 {
     flat::judged(verdict::judge(set, pattern))
 }
 
-#[unsafe(no_mangle)]
-pub extern "C" fn floe_compare(first: &[u8], second: &[u8]) -> FloeComparison
+pub fn floe_compare(first: &[u8], second: &[u8]) -> FloeComparison
     ensures { FlatAnswer (ComparedAs longest first.now second.now) flat_comparison result }
 {
     flat::compared(compare::compare(first, second))
 }
 
-#[unsafe(no_mangle)]
-pub extern "C" fn floe_build(set: &[u8], work: &mut [u16], table: &mut [u8]) -> FloeBuilt
+pub fn floe_build(set: &[u8], work: &mut [u16], table: &mut [u8]) -> FloeBuilt
     ensures { FlatAnswer (BuiltAs longest set.now work.old work.new table.old table.new) flat_built result }
 {
     flat::built(builder::build(set, work, table))
 }
 
-#[unsafe(no_mangle)]
-pub extern "C" fn floe_check_table(table: &[u8]) -> FloeChecked
+pub fn floe_check_table(table: &[u8]) -> FloeChecked
     ensures { FlatAnswer (CheckedAs table.now) flat_checked result }
 {
     flat::checked(table::check_table(table))
 }
 
-#[unsafe(no_mangle)]
-pub extern "C" fn floe_guard_start(table: &[u8]) -> FloeStarted
+pub fn floe_guard_start(table: &[u8]) -> FloeStarted
     ensures { FlatAnswer (StartedAs table.now) flat_started result }
 {
     let started = Guard::start(table);
@@ -83,8 +77,7 @@ pub extern "C" fn floe_guard_start(table: &[u8]) -> FloeStarted
     }
 }
 
-#[unsafe(no_mangle)]
-pub extern "C" fn floe_guard_ask(guard: Guard, table: &[u8]) -> FloeAsked
+pub fn floe_guard_ask(guard: Guard, table: &[u8]) -> FloeAsked
     ensures { FlatAnswer (AskedAs table.now guard) flat_asked result }
 {
     let asked = guard.ask(table);
@@ -106,8 +99,7 @@ pub extern "C" fn floe_guard_ask(guard: Guard, table: &[u8]) -> FloeAsked
     }
 }
 
-#[unsafe(no_mangle)]
-pub extern "C" fn floe_guard_tell(guard: Guard, table: &[u8], outcome: u8) -> FloeTold
+pub fn floe_guard_tell(guard: Guard, table: &[u8], outcome: u8) -> FloeTold
     ensures { FlatAnswer (ToldAs table.now guard outcome) flat_told result }
 {
     let told = guard.tell(table, outcome);

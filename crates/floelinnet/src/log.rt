@@ -7,22 +7,19 @@ ghost use Rattle.flat.specs.Flat.{FlatAnswer, flat_written, flat_verdict, flat_o
 
 use flat::{FloeLogOpened, FloeLogRead, FloeVerdict, FloeWritten};
 
-#[unsafe(no_mangle)]
-pub extern "C" fn floe_log_write(pattern: &[u8], log: &mut [u8]) -> FloeWritten
+pub fn floe_log_write(pattern: &[u8], log: &mut [u8]) -> FloeWritten
     ensures { FlatAnswer (LogWrittenAs pattern.now log.old log.new) flat_written result }
 {
     flat::written(night_log::write_log(pattern, log))
 }
 
-#[unsafe(no_mangle)]
-pub extern "C" fn floe_log_open(log: &[u8]) -> FloeLogOpened
+pub fn floe_log_open(log: &[u8]) -> FloeLogOpened
     ensures { FlatAnswer (OpenedAs log.now) flat_opened result }
 {
     flat::opened(night_log::open_log(log))
 }
 
-#[unsafe(no_mangle)]
-pub extern "C" fn floe_log_next(place: u64, log: &[u8]) -> FloeLogRead
+pub fn floe_log_next(place: u64, log: &[u8]) -> FloeLogRead
     ensures { FlatAnswer (ReadAs log.now place) flat_log_read result }
 {
     let read = night_log::read_log(log, place as usize);
@@ -30,8 +27,7 @@ pub extern "C" fn floe_log_next(place: u64, log: &[u8]) -> FloeLogRead
     flat::read(answer, read.place as u64)
 }
 
-#[unsafe(no_mangle)]
-pub extern "C" fn floe_log_judge(set: &[u8], log: &[u8]) -> FloeVerdict
+pub fn floe_log_judge(set: &[u8], log: &[u8]) -> FloeVerdict
     ensures { FlatAnswer (LogJudgedAs longest set.now log.now) flat_verdict result }
 {
     flat::judged(night_log::judge_log(set, log))

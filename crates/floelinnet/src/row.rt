@@ -5,27 +5,19 @@ ghost use Rattle.flat.specs.Flat.{FlatAnswer, flat_start, flat_ask, flat_tell};
 use flat::{FloeDone, FloeRowAsked};
 use guard::Guard;
 
-#[unsafe(no_mangle)]
-pub extern "C" fn floe_row_start(row: &mut [Guard], job: usize, table: &[u8]) -> FloeDone
+pub fn floe_row_start(row: &mut [Guard], job: usize, table: &[u8]) -> FloeDone
     ensures { FlatAnswer (λ a. RowStartedAs row.old job table.now a row.new) flat_start result }
 {
     flat::started(guard::row::start(row, job, table))
 }
 
-#[unsafe(no_mangle)]
-pub extern "C" fn floe_row_ask(row: &[Guard], job: usize, table: &[u8]) -> FloeRowAsked
+pub fn floe_row_ask(row: &[Guard], job: usize, table: &[u8]) -> FloeRowAsked
     ensures { FlatAnswer (RowAskedAs row.now job table.now) flat_ask result }
 {
     flat::asked(guard::row::ask(row, job, table))
 }
 
-#[unsafe(no_mangle)]
-pub extern "C" fn floe_row_tell(
-    row: &mut [Guard],
-    job: usize,
-    table: &[u8],
-    outcome: u8,
-) -> FloeDone
+pub fn floe_row_tell(row: &mut [Guard], job: usize, table: &[u8], outcome: u8) -> FloeDone
     ensures { FlatAnswer (λ a. RowToldAs row.old job table.now outcome a row.new) flat_tell result }
 {
     flat::told(guard::row::tell(row, job, table, outcome))

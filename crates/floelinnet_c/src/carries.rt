@@ -1,0 +1,32 @@
+// The carry-over record and the guard with nothing told, for C.
+ghost use Rattle.std.specs.Prelude.{◌≡◌};
+ghost use Rattle.meaning.specs.Longest.{longest};
+ghost use Rattle.guard.specs.Guard.{fresh};
+ghost use Rattle.carry.specs.Bytes.{carried};
+ghost use Rattle.carry.specs.Write.{RecordWrittenAs};
+ghost use Rattle.carry.specs.Read.{ReadBackAs};
+ghost use Rattle.flat.specs.Flat.{FlatAnswer, flat_written, flat_started};
+
+use flat::{FloeStarted, FloeWritten};
+use guard::Guard;
+
+#[unsafe(no_mangle)]
+pub extern "C" fn floe_guard_new() -> Guard
+    ensures { result ≡ fresh }
+{
+    floelinnet::floe_guard_new()
+}
+
+#[unsafe(no_mangle)]
+pub extern "C" fn floe_carry_write(guard: Guard, set: &[u8], out: &mut [u8]) -> FloeWritten
+    ensures { FlatAnswer (RecordWrittenAs longest carried guard set.now out.old out.new) flat_written result }
+{
+    floelinnet::floe_carry_write(guard, set, out)
+}
+
+#[unsafe(no_mangle)]
+pub extern "C" fn floe_carry_read(bytes: &[u8], table: &[u8]) -> FloeStarted
+    ensures { FlatAnswer (ReadBackAs longest carried bytes.now table.now) flat_started result }
+{
+    floelinnet::floe_carry_read(bytes, table)
+}

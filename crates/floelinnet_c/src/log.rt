@@ -1,0 +1,36 @@
+// The night log, for C.
+ghost use Rattle.meaning.specs.Longest.{longest};
+ghost use Rattle.night_log.specs.Read.{OpenedAs, ReadAs};
+ghost use Rattle.night_log.specs.Write.{LogWrittenAs};
+ghost use Rattle.night_log.specs.Judge.{LogJudgedAs};
+ghost use Rattle.flat.specs.Flat.{FlatAnswer, flat_written, flat_verdict, flat_opened, flat_log_read};
+
+use flat::{FloeLogOpened, FloeLogRead, FloeVerdict, FloeWritten};
+
+#[unsafe(no_mangle)]
+pub extern "C" fn floe_log_write(pattern: &[u8], log: &mut [u8]) -> FloeWritten
+    ensures { FlatAnswer (LogWrittenAs pattern.now log.old log.new) flat_written result }
+{
+    floelinnet::floe_log_write(pattern, log)
+}
+
+#[unsafe(no_mangle)]
+pub extern "C" fn floe_log_open(log: &[u8]) -> FloeLogOpened
+    ensures { FlatAnswer (OpenedAs log.now) flat_opened result }
+{
+    floelinnet::floe_log_open(log)
+}
+
+#[unsafe(no_mangle)]
+pub extern "C" fn floe_log_next(place: u64, log: &[u8]) -> FloeLogRead
+    ensures { FlatAnswer (ReadAs log.now place) flat_log_read result }
+{
+    floelinnet::floe_log_next(place, log)
+}
+
+#[unsafe(no_mangle)]
+pub extern "C" fn floe_log_judge(set: &[u8], log: &[u8]) -> FloeVerdict
+    ensures { FlatAnswer (LogJudgedAs longest set.now log.now) flat_verdict result }
+{
+    floelinnet::floe_log_judge(set, log)
+}
