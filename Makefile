@@ -1,6 +1,7 @@
 # The commands of the repository. `rt` is Rattle's; cargo, C and C++ compilers, valgrind and pkg-config serve the tests,
 # and cargo the benchmarks.
 ARCHIVE = target/staticlib/libfloelinnet.a
+PROGRAM = target/bin/print_table
 SHELL = /bin/bash
 .SHELLFLAGS = -euo pipefail -c
 RUN =
@@ -26,28 +27,42 @@ export FLOELINNET_RUN = $(RUN)
 export G_SLICE = always-malloc
 endif
 
-# A command of rt, the file below target/ to which its lines go, and what it makes. Where that isn't there yet, one line
-# says what is going on; where the command fails, its last lines are shown and the file is named.
-define quietly
-mkdir -p target
-test -e $(3) || echo '`$(1)`, some minutes from nothing, log in $(2)' >&2
-$(1) > $(2) 2>&1 || { tail -n 20 $(2); echo '`$(1)` failed: the whole log is $(2)'; exit 1; } >&2
+# A crate, a command of rt in its folder, the file below target/ to which the command's lines go, what it makes in the
+# crate's out/, and the copy of that below target/. Where there is no copy yet, one line says what is going on; where the
+# command fails, its last lines are shown and the file is named. A copy that is the same stays: cargo builds nothing anew.
+define copied
+mkdir -p target $(dir $(5))
+test -e $(5) || echo '`$(2)` in crates/$(1), some minutes from nothing, log in $(3)' >&2
+(cd crates/$(1) && $(2)) > $(3) 2>&1 || { tail -n 20 $(3); echo '`$(2)` failed: the whole log is $(3)'; exit 1; } >&2
+cmp -s crates/$(1)/out/$(4) $(5) || cp crates/$(1)/out/$(4) $(5)
 endef
 
 # The table of a limits file.
-.PHONY: table
-table:
+.PHONY: table limits-named
+table: limits-named $(PROGRAM)
+	@$(RUN) $(PROGRAM) < '$(LIMITS)'
+
+limits-named:
 	@test -n '$(LIMITS)' || { echo 'which limits? As in: make table LIMITS=sets/any-hit-1-of-2.limits' >&2; exit 1; }
 	@test -f '$(LIMITS)' || { echo 'there is no file $(LIMITS)' >&2; exit 1; }
-	@$(call quietly,rt check print_table,target/print_table.log,target/bin/print_table)
-	@$(RUN) target/bin/print_table < '$(LIMITS)'
 
-# Everything that must pass. rt ci comes first, since it starts from nothing and removes target/: it proves every crate,
-# tries the must-fail edits and runs the programs. The tests from outside then use what it proved and built. Its last
-# line is said again at the end, where nothing has failed.
+# The archive for C, and the printing program, which is run once as it is built. rt sees itself what is up to date.
+.PHONY: $(ARCHIVE) $(PROGRAM)
+$(ARCHIVE):
+	@$(call copied,floelinnet_c,rt lib,target/staticlib.log,libfloelinnet_c.a,$@)
+$(PROGRAM):
+	@$(call copied,print_table,rt run < /dev/null,target/print_table.log,print_table,$@)
+
+# Everything that must pass. rt ci comes first: it proves every crate, tries the must-fail edits and runs the programs. It
+# passes even where edits are bad, which says that they were not tried: here there may be none. The tests from outside then
+# use the archive and the program. The last line of rt ci is said again at the end, where nothing has failed.
 .PHONY: test
 test:
-	log=$$(mktemp); trap 'rm -f $$log' EXIT; rt ci | tee $$log; $(MAKE) --no-print-directory outside; tail -n 1 $$log
+	@log=$$(mktemp); trap 'rm -f $$log' EXIT; \
+	rt ci | tee $$log; \
+	if grep -q '^rt: ok;.*, [1-9][0-9]* bad' $$log; then echo 'must-fail edits are bad: see BAD EDIT above'; exit 1; fi; \
+	$(MAKE) --no-print-directory outside; \
+	tail -n 1 $$log
 
 # The tests from outside alone: the archive from C, C++ and Rust, and the printing program.
 .PHONY: outside
@@ -80,7 +95,3 @@ table-prints:
 .PHONY: bench
 bench: $(ARCHIVE)
 	$(CARGO) run --release --offline --quiet --package floelinnet-bench
-
-.PHONY: $(ARCHIVE)
-$(ARCHIVE):
-	@$(call quietly,rt staticlib floelinnet,target/staticlib.log,$(ARCHIVE))

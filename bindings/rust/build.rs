@@ -1,5 +1,5 @@
-//! Links libfloelinnet.a from the folder that FLOELINNET_ARCHIVE_DIR names; where it isn't set, from where
-//! `rt staticlib floelinnet` leaves the archive, else from where `make dist` does.
+//! Links libfloelinnet.a from the folder that FLOELINNET_ARCHIVE_DIR names; where it isn't set, from either folder into
+//! which `make dist` copies the archive.
 
 use std::env;
 use std::path::{Path, PathBuf};

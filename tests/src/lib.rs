@@ -1,7 +1,7 @@
 //! Tests of the Floelinnet archive and of the printing program from outside.
 //!
 //! `reference` is docs/RULES.md by brute force, `floe` calls the archive, and the files under `tests/` hold the two
-//! against each other. From this folder, after `rt staticlib floelinnet` and `rt check print_table` in the root:
+//! against each other. From this folder, after `make dist target/bin/print_table` in the root:
 //!
 //!     cargo test --release --offline
 //!

@@ -16,13 +16,13 @@ use floelinnet_tests::reference::table::states;
 use floelinnet_tests::reference::{refuse, sets, Refusal};
 use floelinnet_tests::tools;
 
-/// What `rt check print_table` makes.
+/// What `make target/bin/print_table` copies from where `rt run` leaves it.
 const PROGRAM: &str = concat!(env!("CARGO_MANIFEST_DIR"), "/../target/bin/print_table");
 const ROOT: &str = concat!(env!("CARGO_MANIFEST_DIR"), "/..");
 
 /// What the program writes for an input that comes in pieces of this length, with time to read each.
 fn printed_in_pieces(input: &[u8], length: usize) -> String {
-    assert!(Path::new(PROGRAM).is_file(), "there is no {PROGRAM}: run `rt check print_table` in the root first");
+    assert!(Path::new(PROGRAM).is_file(), "there is no {PROGRAM}: run `make target/bin/print_table` in the root first");
     let mut program =
         tools::program(PROGRAM).stdin(Stdio::piped()).stdout(Stdio::piped()).stderr(Stdio::piped()).spawn().unwrap();
     let mut stdin = program.stdin.take().unwrap();
