@@ -1,8 +1,6 @@
 -- `sets::take_limits` meets its contract. The invariant: the places are the bytes' first i limits, and zeros. Assumes nothing.
 use mathlib.Core.Path.{◌≡◌, refl, ap, ◌∙◌}
-use Prim.Native.Nat.{◌-◌, ◌≤◌}
 use native.Mathlib.Omega.{arith}
-use borrow.Author.Rules.{rules}
 use lib.ListN.{set}
 use Rattle.sets.specs.Bytes.{count_of, limit_in, limits_in, set_with, set_of}
 use Rattle.sets.proofs.Turns.{set_turn}

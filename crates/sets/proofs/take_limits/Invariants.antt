@@ -1,11 +1,7 @@
 -- `sets::take_limits` meets its contract. The invariant: the places are the bytes' first i limits, and zeros. Assumes nothing.
-use mathlib.Core.Path.{◌≡◌, refl, ap, ◌∙◌}
+use mathlib.Core.Path.{◌≡◌}
 use Prim.Native.Nat.{◌-◌, ◌≤◌}
-use native.Mathlib.Omega.{arith}
-use borrow.Author.Rules.{rules}
-use lib.ListN.{set}
-use Rattle.sets.specs.Bytes.{count_of, limit_in, limits_in, set_with, set_of}
-use Rattle.sets.proofs.Turns.{set_turn}
+use Rattle.sets.specs.Bytes.{set_with}
 use Rattle.sets.proofs.take_limits.Given as goal
 
 abbrev pub invariant-loop-i : goal.invariant-loop-i

@@ -1,6 +1,5 @@
 -- `sets::write::put_head` meets its contract: six stores in a row. Assumes nothing.
 use native.Mathlib.Omega.{arith}
-use borrow.Author.Rules.{rules}
 use lib.ListN.{length-set}
 use lib.Seq.{sets-eq}
 use Rattle.sets.specs.Bytes.{head_bytes}

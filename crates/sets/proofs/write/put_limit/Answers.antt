@@ -1,7 +1,6 @@
 -- `sets::write::put_limit` meets its contract: three stores in a row. Assumes nothing.
 use native.Mathlib.Numerals.{add-one, add-two}
 use native.Mathlib.Omega.{arith}
-use borrow.Author.Rules.{rules}
 use lib.ListN.{length-set}
 use lib.Seq.{sets-eq}
 use Rattle.sets.specs.Bytes.{bytes_of_limit}

@@ -1,9 +1,7 @@
 -- `sets::write::put_limits` meets its contract. The invariant: past byte 6 stand the first i limits, and then what stood there. Assumes nothing.
 use mathlib.Core.Path.{◌≡◌, refl, ap, ◌∙◌}
-use Prim.Native.Nat.{◌-◌, ◌≤◌}
 use native.Mathlib.Omega.{arith}
 use borrow.Author.Rules.{rules}
-use lib.ListN.{length}
 use Rattle.sets.proofs.Turns.{written_to, write_none, write_turn}
 use Rattle.sets.proofs.write.put_limits.Goals as goal
 
@@ -14,7 +12,7 @@ pub loop-i-preserved : goal.loop-i-preserved
 loop-i-preserved c =
     let p = c.put_limit in
     let s = c.args in
-    (omega arith, p.auto.0 ∙ c.loop-i.invariant.1, write_turn s.set s.out.now c.loop-i.out p.new.0 c.loop-i.i (omega arith) c.loop-i.invariant.2 p.ensures)
+    (omega arith, p.auto.out ∙ c.loop-i.invariant.1, write_turn s.set s.out.now c.loop-i.out p.new.out c.loop-i.i (omega arith) c.loop-i.invariant.2 p.ensures)
 
 pub returns : goal.returns
 returns c =

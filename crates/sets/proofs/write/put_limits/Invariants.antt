@@ -1,10 +1,8 @@
 -- `sets::write::put_limits` meets its contract. The invariant: past byte 6 stand the first i limits, and then what stood there. Assumes nothing.
-use mathlib.Core.Path.{◌≡◌, refl, ap, ◌∙◌}
+use mathlib.Core.Path.{◌≡◌}
 use Prim.Native.Nat.{◌-◌, ◌≤◌}
-use native.Mathlib.Omega.{arith}
-use borrow.Author.Rules.{rules}
 use lib.ListN.{length}
-use Rattle.sets.proofs.Turns.{written_to, write_none, write_turn}
+use Rattle.sets.proofs.Turns.{written_to}
 use Rattle.sets.proofs.write.put_limits.Given as goal
 
 abbrev pub invariant-loop-i : goal.invariant-loop-i

@@ -1,5 +1,4 @@
 -- `sets::write::test_memory` meets its contract: each return rewrites the rows with the tests that led there. Assumes nothing.
-use borrow.Author.Rules.{rules}
 use borrow.Author.Tests.{le-ltb, lt-ltb, eq-eqb, ne_eqb}
 use Rattle.layout.specs.Refusal.{first}
 use Rattle.sets.proofs.write.test_memory.Goals as goal

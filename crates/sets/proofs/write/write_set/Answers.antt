@@ -3,7 +3,6 @@ use mathlib.Core.Path.{◌≡◌, refl, sym, ap, ◌∙◌}
 use mathlib.Core.List.{◌++◌}
 use Prim.Native.Nat.{◌+◌, ◌*◌}
 use native.Mathlib.Omega.{arith}
-use borrow.Author.Rules.{rules}
 use lib.ListN.{take, drop}
 use Rattle.layout.specs.Refusal.{passed, first}
 use Rattle.layout.proofs.Rows.{refused_before, passed_before, too_short, long_enough}
@@ -12,14 +11,13 @@ use Rattle.layout.proofs.Write.{written_by}
 use Rattle.meaning.specs.Longest.{longest}
 use Rattle.meaning.specs.Sets.{SetAllowed}
 use Rattle.sets.specs.Bytes.{head_bytes, limit_bytes}
-use Rattle.sets.specs.Read.{says}
 use Rattle.sets.specs.Rows.{memory_rows}
 use Rattle.sets.proofs.Accepted.{memory_allowed}
 use Rattle.sets.proofs.write.write_set.Goals.{In_default}
 use Rattle.sets.proofs.write.write_set.Goals as goal
 
 at_room : (c : In_default) → first (memory_rows longest c.args.set) ≡ passed
-at_room c = sym c.test_memory-answer.ensures ∙ ap says c.enum_told-1.given.1
+at_room c = sym c.in_default.ensures
 
 allowed : (c : In_default) → SetAllowed longest c.args.set
 allowed c = memory_allowed longest c.args.set (at_room c)
@@ -27,7 +25,7 @@ allowed c = memory_allowed longest c.args.set (at_room c)
 pub returns-in-Refused : goal.returns-in-Refused
 returns-in-Refused c =
     let s = c.args in
-    written_by _ _ _ s.out.now _ _ _ (refused_before _ _ (sym c.test_memory-answer.ensures ∙ ap says c.answer-1.given.1)) refl refl refl
+    written_by _ _ _ s.out.now _ _ _ (refused_before _ _ (sym c.in-Refused.ensures)) refl refl refl
 
 pub overflow_mul-size : goal.overflow_mul-size
 overflow_mul-size c = let a = allowed (goal.at.overflow_mul-size c).In_default in omega arith
