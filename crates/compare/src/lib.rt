@@ -1,6 +1,7 @@
 // Does one set of limits demand at least as much as another? If not, the first pattern between them.
 // Refuses by 1 to 7 and 21 for the first set, then for the second, and says which.
 #![tactic(auto)]
+
 ghost use Rattle.std.specs.Prelude.{◌≡◌, ◌↔◌, true, false, [], ◌∷◌, ◌++◌, suc, ◌^◌, ◌≤◌, ◌<◌};
 ghost use Rattle.meaning.specs.Longest.{longest};
 ghost use Rattle.meaning.specs.Sets.{SetAllowed, KeptBy};

@@ -2,7 +2,6 @@
 use mathlib.Core.Path.{◌≡◌, refl, sym, ap, ap₂, ◌∙◌, subst}
 use mathlib.Core.List.{List}
 use Prim.Native.Nat.{ℕ}
-use borrow.Author.Rules.{rules}
 use Rattle.layout.specs.Refusal.{first}
 use Rattle.meaning.specs.Longest.{longest}
 use Rattle.sets.specs.Bytes.{set_of}
@@ -19,20 +18,20 @@ pub returns-in-Refused : goal.returns-in-Refused
 returns-in-Refused c =
     let s = c.args in
     refused_as s.first.now s.second.now 1 _ _ c.refused.result c.refused.ensures
-    (ap (λ z. in_turn z (first (set_rows longest s.second.now))) (refused_rows longest s.first.now c.read_set-a.result c.read_set-a.ensures _ _ c.answer-1.given.1))
+    (ap (λ z. in_turn z (first (set_rows longest s.second.now))) (refused_rows longest s.first.now c.read_set-a.result c.read_set-a.ensures _ _ c.in-Refused.is))
 
 pub returns-in-Refused-answer : goal.returns-in-Refused-answer
 returns-in-Refused-answer c =
     let s = c.args in
     refused_as s.first.now s.second.now 2 _ _ c.refused-in-Refused-answer.result c.refused-in-Refused-answer.ensures
-    (ap₂ in_turn (accepted_rows longest s.first.now c.read_set-a.result c.read_set-a.ensures c.enum_told-1.given.1)
-    (refused_rows longest s.second.now c.read_set-b.result c.read_set-b.ensures _ _ c.answer-in-Refused-answer-2-1.given.1))
+    (ap₂ in_turn (accepted_rows longest s.first.now c.read_set-a.result c.read_set-a.ensures c.in_default.is)
+    (refused_rows longest s.second.now c.read_set-b.result c.read_set-b.ensures _ _ c.in-Refused-answer.is))
 
 pub search-requires : goal.search-requires
 search-requires c =
     let s = c.args in (
-      accepted_set_allowed longest s.first.now c.read_set-a.result c.read_set-a.ensures c.enum_told-1.given.1,
-      accepted_set_allowed longest s.second.now c.read_set-b.result c.read_set-b.ensures c.enum_told-in_default-answer-1.given.1,
+      accepted_set_allowed longest s.first.now c.read_set-a.result c.read_set-a.ensures c.in_default.is,
+      accepted_set_allowed longest s.second.now c.read_set-b.result c.read_set-b.ensures c.in_default-answer.is,
     )
 
 pub returns : goal.returns
@@ -40,8 +39,8 @@ returns c =
     let s = c.args in
     let a = s.first.now in
     let b = s.second.now in
-    let e = c.enum_told-1.given.1 in
-    let f = c.enum_told-in_default-answer-1.given.1 in
+    let e = c.in_default.is in
+    let f = c.in_default-answer.is in
     let x = c.search.result in
     record {
       refusal = c.search.ensures.accepted

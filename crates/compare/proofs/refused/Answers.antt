@@ -1,6 +1,5 @@
 -- `compare::refused`: beside the refusal stands the pattern of length 0. Assumes nothing.
 use mathlib.Core.Path.{ap}
-use borrow.Author.Rules.{rules}
 use Rattle.compare.specs.declared.Compared.{Compared}
 use Rattle.compare.specs.declared.CompareAnswer.TheVariants.{Refused}
 use Rattle.compare.proofs.refused.Goals as goal

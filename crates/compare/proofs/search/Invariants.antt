@@ -1,13 +1,7 @@
 -- `compare::search`: the histories are scanned block by block, and none in an earlier block splits the sets. Assumes nothing.
-use mathlib.Core.Path.{◌≡◌, refl, sym, subst, ◌∙◌}
-use mathlib.Core.Bool.{false}
-use mathlib.Core.List.{[], ◌∷◌, ◌++◌}
-use Prim.Native.Nat.{suc, ◌≤◌, ◌-◌, ◌^◌}
-use native.Mathlib.Numerals.{add-one}
-use native.Mathlib.Omega.{arith}
-use borrow.Author.Rules.{rules}
-use Rattle.compare.specs.Splits.{outcomes_of}
-use Rattle.compare.proofs.FirstFound.{Low, High, NoneFrom, block_ends, low_below, next_block, none_from_scan, first_found, none_covers}
+use mathlib.Core.Path.{◌≡◌}
+use Prim.Native.Nat.{◌≤◌, ◌^◌}
+use Rattle.compare.proofs.FirstFound.{Low, High, NoneFrom}
 use Rattle.compare.proofs.search.Given as goal
 
 abbrev pub invariant-loop-high : goal.invariant-loop-high

@@ -1,8 +1,7 @@
 -- `compare::with_miss`: the outcomes not yet written are those left in the history. Assumes nothing.
 use mathlib.Core.Path.{◌≡◌, subst}
-use Prim.Native.Nat.{◌≤◌, ◌-◌, suc}
+use Prim.Native.Nat.{◌-◌, suc}
 use native.Mathlib.Omega.{arith}
-use borrow.Author.Rules.{rules}
 use Rattle.compare.proofs.Packing.{Filled, filled_start, filled_turn, filled_end}
 use Rattle.compare.proofs.with_miss.Goals as goal
 

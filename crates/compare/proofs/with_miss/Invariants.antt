@@ -1,9 +1,6 @@
 -- `compare::with_miss`: the outcomes not yet written are those left in the history. Assumes nothing.
-use mathlib.Core.Path.{◌≡◌, subst}
-use Prim.Native.Nat.{◌≤◌, ◌-◌, suc}
-use native.Mathlib.Omega.{arith}
-use borrow.Author.Rules.{rules}
-use Rattle.compare.proofs.Packing.{Filled, filled_start, filled_turn, filled_end}
+use Prim.Native.Nat.{◌≤◌}
+use Rattle.compare.proofs.Packing.{Filled}
 use Rattle.compare.proofs.with_miss.Given as goal
 
 abbrev pub invariant-loop-i : goal.invariant-loop-i
