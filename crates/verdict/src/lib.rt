@@ -1,6 +1,7 @@
 // The verdict on a pattern: kept, or lost at a job with the lowest limit that breaks there and its earliest broken window.
 // Refuses by 1 to 7 and 21 for the set, then by 26 and by 13 for the whole pattern, even where it is lost earlier.
 #![tactic(auto)]
+
 ghost use Rattle.std.specs.Prelude.{◌≡◌, [], ◌-◌, ◌≤◌, ◌<◌, ◌^◌, length, pos, ◌-ℤ◌};
 ghost use Rattle.patterns.specs.Outcome.{outcomes};
 ghost use Rattle.meaning.specs.Longest.{longest};

@@ -5,7 +5,6 @@ use lib.IntN.{◌-ℤ◌}
 use mir.Syntax.{w64}
 use mir.Val.{to_z}
 use mir.ValLaws.{to_z-of_z}
-use borrow.Author.Rules.{rules}
 use Rattle.verdict.proofs.Jobs.{difference_read, difference_fits}
 use Rattle.verdict.proofs.first_job.Goals as goal
 

@@ -1,13 +1,10 @@
 -- `verdict::judge_outcomes` meets its contract: the invariant is that the outcomes so far stand. Assumes nothing.
 use mathlib.Core.Path.{refl}
-use Prim.Native.Nat.{◌-◌, ◌≤◌}
 use native.Mathlib.Omega.{arith}
-use borrow.Author.Rules.{rules}
-use lib.ListN.{length, length-map, get_or-map}
+use lib.ListN.{length-map, get_or-map}
 use Rattle.layout.specs.Bytes.{byte_at}
 use Rattle.layout.specs.Refusal.{first}
 use Rattle.patterns.specs.Outcome.{outcome, outcomes}
-use Rattle.verdict.specs.Turn.{Stands}
 use Rattle.verdict.proofs.Turns.{stands_first, stands_last, turned_kept, turned_lost, turned_blocks}
 use Rattle.verdict.proofs.judge_outcomes.Goals as goal
 
@@ -21,7 +18,7 @@ pub lost_by-requires : goal.lost_by-requires
 lost_by-requires c =
     let t = c.take_turn-turned in
     let o = outcome (byte_at c.args.pattern.now c.loop-i.i) in
-    let (blocks, lt) = turned_blocks c.args.set c.loop-i.history o t.result t.ensures _ c.turned-in-Lost-1.given.1 in
+    let (blocks, lt) = turned_blocks c.args.set c.loop-i.history o t.result t.ensures _ c.in-Lost.is in
     (c.requires.0, blocks, lt, omega (arith, c.requires.1))
 
 pub returns-in-Lost : goal.returns-in-Lost
@@ -30,7 +27,7 @@ returns-in-Lost c =
     let p = c.args.pattern.now in
     let o = outcome (byte_at p c.loop-i.i) in
     turned_lost c.args.set c.requires.0 (outcomes p) c.loop-i.i c.loop-i.history (omega (arith, length-map p outcome)) c.loop-i.invariant.1 o (get_or-map outcome p c.loop-i.i 0)
-    t.result t.ensures _ c.turned-in-Lost-1.given.1 c.lost_by.result c.lost_by.ensures
+    t.result t.ensures _ c.in-Lost.is c.lost_by.result c.lost_by.ensures
 
 pub loop-i-preserved : goal.loop-i-preserved
 loop-i-preserved c =
@@ -39,7 +36,7 @@ loop-i-preserved c =
     let t = c.take_turn-turned in (
       omega arith,
       turned_kept c.args.set c.requires.0 (outcomes p) c.loop-i.i c.loop-i.history (omega (arith, length-map p outcome)) c.loop-i.invariant.1 o (get_or-map outcome p c.loop-i.i 0)
-          t.result t.ensures _ c.turned-1.given.1,
+          t.result t.ensures _ c.in-Kept.is,
     )
 
 pub returns : goal.returns

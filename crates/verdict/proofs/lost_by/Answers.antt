@@ -1,6 +1,5 @@
 -- `verdict::lost_by`: what `broken_reach` ensures of the limit that blocks, and the job that lies so many before. Assumes nothing.
 use native.Mathlib.Omega.{arith}
-use borrow.Author.Rules.{rules}
 use Rattle.meaning.specs.Longest.{longest}
 use Rattle.meaning.specs.Sets.{rule_at}
 use Rattle.meaning.proofs.Widths.{width_allowed}
