@@ -1,6 +1,7 @@
 // The night log: the outcomes of a visit as they are stored, eight to a byte. Here it is read, one outcome a call.
 // Refuses by 15 for a log that isn't one, then by 16 for unused bits that aren't zero; each call tests both, in constant time.
 #![tactic(auto)]
+
 ghost use Rattle.std.specs.Prelude.{◌≡◌, ◌+◌, ◌*◌, ◌/◌, ◌%◌, ◌^◌, ◌≤◌, ◌<◌, length};
 ghost use Rattle.layout.specs.Refusal.{first};
 ghost use Rattle.layout.specs.Head.{fault_row};

@@ -5,7 +5,6 @@ use native.Mathlib.Nat.{one-mul}
 use native.Mathlib.Omega.{arith}
 use lib.Bits.{bit_and, and_mask}
 use lib.Pow.{pow_pos, shl_exact}
-use borrow.Author.Rules.{rules}
 use Rattle.night_log.proofs.low_bits.Goals.{Start}
 use Rattle.night_log.proofs.low_bits.Goals as goal
 

@@ -1,7 +1,6 @@
 -- `night_log::open_log` meets its contract: the number that `fault` gives is the refusal. Assumes nothing.
 use mathlib.Core.Path.{sym, ◌∙◌}
 use native.Mathlib.Omega.{arith}
-use borrow.Author.Rules.{rules}
 use Rattle.layout.proofs.Head.{some_fault, no_fault}
 use Rattle.night_log.proofs.open_log.Goals as goal
 

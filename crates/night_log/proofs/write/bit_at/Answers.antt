@@ -2,7 +2,6 @@
 use mathlib.Core.Path.{sym, ap, ◌∙◌}
 use mathlib.Core.Bool.{false}
 use native.Mathlib.Omega.{arith}
-use borrow.Author.Rules.{rules}
 use lib.ListN.{length-map, get_or-map, get_or-eq_default}
 use Rattle.layout.specs.Bytes.{byte_at}
 use Rattle.patterns.specs.Outcome.{outcome, outcomes, bit}

@@ -1,7 +1,6 @@
 -- `night_log::write::full_byte` meets its contract: two halves are the byte. Assumes nothing.
 use mathlib.Core.Path.{ap₂, ◌∙◌}
 use Prim.Native.Nat.{◌+◌, ◌*◌}
-use borrow.Author.Rules.{rules}
 use Rattle.patterns.specs.Outcome.{outcomes}
 use Rattle.night_log.proofs.Turns.{halves}
 use Rattle.night_log.proofs.write.full_byte.Goals as goal

@@ -1,8 +1,6 @@
 -- `night_log::write::last_byte` meets its contract: the invariant is the number that the outcomes so far write. Assumes nothing.
 use mathlib.Core.Path.{◌≡◌, refl, ap, ◌∙◌}
-use Prim.Native.Nat.{◌-◌, ◌≤◌}
 use native.Mathlib.Omega.{arith}
-use borrow.Author.Rules.{rules}
 use Rattle.patterns.specs.Outcome.{outcomes}
 use Rattle.night_log.proofs.Turns.{bits_from, bits_room, bits_more, bits_eight}
 use Rattle.night_log.proofs.write.last_byte.Goals as goal

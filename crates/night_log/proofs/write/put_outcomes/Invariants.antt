@@ -1,14 +1,9 @@
 -- `night_log::write::put_outcomes` meets its contract. The invariant: past byte 9 stand the first j packed bytes, and then what stood there. Assumes nothing.
-use mathlib.Core.Path.{◌≡◌, sym, ◌∙◌}
-use Prim.Native.Nat.{◌-◌, ◌≤◌, ◌<◌}
-use native.Mathlib.Omega.{arith}
-use borrow.Author.Rules.{rules}
+use Prim.Native.Nat.{◌-◌, ◌≤◌}
 use lib.ListN.{length}
-use Rattle.layout.proofs.Runs.{Pasted, pasted_none, pasted_turn, pasted_all}
+use Rattle.layout.proofs.Runs.{Pasted}
 use Rattle.patterns.specs.Outcome.{outcomes}
 use Rattle.night_log.specs.Bytes.{packed_size, packed}
-use Rattle.night_log.proofs.Packing.{packed_length, packed_byte}
-use Rattle.night_log.proofs.write.put_outcomes.Goals.{After-packed_size-size}
 use Rattle.night_log.proofs.write.put_outcomes.Given as goal
 
 abbrev pub invariant-loop-j : goal.invariant-loop-j
