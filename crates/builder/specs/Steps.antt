@@ -1,5 +1,5 @@
 -- What each step of the builder leaves.
-use Rattle.std.specs.Prelude.{◌≡◌, List, [], ◌∷◌, ℕ, ◌^◌, ◌≤◌}
+use Rattle.std.specs.Prelude.{◌≡◌, List, [], ◌∷◌, ℕ}
 use Rattle.layout.specs.Refusal.{first}
 use Rattle.layout.specs.Write.{room_row, length_when}
 use Rattle.machines.specs.Machine.{Machine}
@@ -7,7 +7,7 @@ use Rattle.machines.specs.Canonical.{Canonical}
 use Rattle.meaning.specs.declared.LimitSet.{LimitSet}
 use Rattle.meaning.specs.Sets.{KeptBy}
 use Rattle.table.specs.Bytes.{size_of}
-use Rattle.classes.specs.Area.{high, Within}
+use Rattle.classes.specs.Area.{Within}
 use Rattle.numbering.specs.Numbered.{numbered_machine}
 use Rattle.builder.specs.declared.BuildAnswer.{BuildAnswer}
 use Rattle.builder.specs.Rows.{Writable}

@@ -1,6 +1,7 @@
 // The table of a set of limits: the one smallest machine that walks exactly the patterns that the set keeps.
 // Refuses by 1 to 7 and 21, then by 8 for a work area that is too short and by 9 for a table buffer that is.
 #![tactic(auto)]
+
 mod write;
 
 ghost use Rattle.std.specs.Prelude.{◌≡◌, ◌-◌, ◌≤◌, length};

@@ -2,7 +2,6 @@
 use native.Mathlib.Omega.{arith}
 use Prim.Native.Nat.{◌-◌}
 use lib.Pow.{shl_exact}
-use borrow.Author.Rules.{rules}
 use Rattle.builder.proofs.area_size.Goals as goal
 
 pub returns : goal.returns

@@ -1,6 +1,5 @@
 -- `builder::build_table`: each way out by its law. Assumes nothing.
 use native.Mathlib.Omega.{arith}
-use borrow.Author.Rules.{rules}
 use Rattle.meaning.specs.Longest.{longest}
 use Rattle.meaning.proofs.Widths.{set_wider}
 use Rattle.numbering.specs.Numbered.{numbered_machine}
@@ -27,20 +26,20 @@ number_states-count-requires c =
 
 pub returns-then-table-size : goal.returns-then-table-size
 returns-then-table-size c =
-    let w = c.number_states-count.new.1.1.1.0 in
+    let w = c.number_states-count.new.work in
     let m = numbered_machine c.count_of-n.result w c.number_states-count.result in (
       m,
-      short_table c.args.widest c.args.set c.args.work.now c.clear.new.0 c.args.table.now m c.number_states-count.ensures.canonical
-          (clear_within c.args.widest c.length_for-m.result c.count_of-n.result c.area_size-area.result c.args.work.now w c.clear.new.0 c.area_size-area.ensures
+      short_table c.args.widest c.args.set c.args.work.now c.clear.new.work c.args.table.now m c.number_states-count.ensures.canonical
+          (clear_within c.args.widest c.length_for-m.result c.count_of-n.result c.area_size-area.result c.args.work.now w c.clear.new.work c.area_size-area.ensures
           c.count_of-n.ensures (c.length_for-m.ensures.short c.args.widest c.requires.2) c.number_states-count.ensures.within c.clear.ensures) c.if-table-size.true,
     )
 
 pub returns : goal.returns
 returns c =
-    let w = c.number_states-count.new.1.1.1.0 in
+    let w = c.number_states-count.new.work in
     let m = numbered_machine c.count_of-n.result w c.number_states-count.result in (
       m,
-      whole_table c.args.widest c.args.set c.args.work.now c.clear-2.new.0 c.args.table.now m c.number_states-count.ensures.canonical
-          (clear_within c.args.widest c.length_for-m.result c.count_of-n.result c.area_size-area.result c.args.work.now w c.clear-2.new.0 c.area_size-area.ensures
+      whole_table c.args.widest c.args.set c.args.work.now c.clear-2.new.work c.args.table.now m c.number_states-count.ensures.canonical
+          (clear_within c.args.widest c.length_for-m.result c.count_of-n.result c.area_size-area.result c.args.work.now w c.clear-2.new.work c.area_size-area.ensures
           c.count_of-n.ensures (c.length_for-m.ensures.short c.args.widest c.requires.2) c.number_states-count.ensures.within c.clear-2.ensures) _ c.if-table-size.false c.write_table.ensures,
     )

@@ -1,6 +1,5 @@
 -- `builder::number_states`: the classes, and then their numbers. Assumes nothing.
 use native.Mathlib.Omega.{arith}
-use borrow.Author.Rules.{rules}
 use Rattle.meaning.specs.Longest.{longest}
 use Rattle.builder.proofs.Holding.{held_of}
 use Rattle.builder.proofs.number_states.Goals as goal
@@ -14,4 +13,4 @@ number-requires c =
 
 pub returns : goal.returns
 returns c =
-    held_of c.args.set c.args.m c.requires.1 c.args.work.now c.classes.new.1.1.1.0 _ c.number.result c.classes.ensures.0 c.args.n c.requires.2 c.requires.3 c.classes.ensures.1 c.number.ensures
+    held_of c.args.set c.args.m c.requires.1 c.args.work.now c.classes.new.work _ c.number.result c.classes.ensures.0 c.args.n c.requires.2 c.requires.3 c.classes.ensures.1 c.number.ensures

@@ -4,7 +4,6 @@ use mathlib.Core.Bool.{Bool, false, cond}
 use mathlib.Core.List.{List}
 use Prim.Native.Nat.{ℕ, ◌-◌}
 use native.Mathlib.Omega.{arith}
-use borrow.Author.Rules.{rules}
 use borrow.Author.Tests.{lt-leb, le-leb}
 use Rattle.numbering.specs.Numbered.{number_after}
 use Rattle.table.specs.Bytes.{no_miss}
@@ -21,7 +20,7 @@ returns-then-work-history-lt-MAY_MISS c =
 
 pub overflow_sub-result : goal.overflow_sub-result
 overflow_sub-result c =
-    omega (arith, c.requires.1 (le-leb _ _ c.if-work-history-lt-MAY_MISS.false))
+    omega (arith, c.requires.bound (le-leb _ _ c.if-work-history-lt-MAY_MISS.false))
 
 pub returns : goal.returns
 returns c =

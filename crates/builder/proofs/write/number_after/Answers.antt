@@ -1,7 +1,6 @@
 -- `builder::write::number_after`: a class is no greater than its history. Assumes nothing.
 use mathlib.Core.Path.{ap}
 use native.Mathlib.Omega.{arith}
-use borrow.Author.Rules.{rules}
 use Rattle.classes.specs.Area.{class_at}
 use Rattle.numbering.specs.Numbered.{number_at}
 use Rattle.builder.proofs.write.number_after.Goals as goal

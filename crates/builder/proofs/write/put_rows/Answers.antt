@@ -2,10 +2,9 @@
 use mathlib.Core.Path.{◌≡◌, refl, ap, ap₂, ◌∙◌}
 use mathlib.Core.Bool.{Bool, true, false, cond}
 use mathlib.Core.List.{List, ◌++◌}
-use Prim.Native.Nat.{ℕ, ◌+◌, ◌-◌, ◌*◌, ◌≤◌}
+use Prim.Native.Nat.{ℕ, ◌+◌, ◌-◌, ◌*◌}
 use native.Mathlib.Omega.{arith}
-use borrow.Author.Rules.{rules}
-use lib.ListN.{length, take, drop}
+use lib.ListN.{take, drop}
 use Rattle.classes.specs.Area.{may_at}
 use Rattle.numbering.specs.Numbered.{class_of, number_after, move_of, numbered_machine}
 use Rattle.table.specs.Bytes.{pair_bytes, entry_of, no_miss}
@@ -23,14 +22,11 @@ loop-i-init c = (omega arith, refl, no_rows _ _)
 pub bounds-work-n : goal.bounds-work-n
 bounds-work-n c = omega (arith, c.requires.0.entries.room, c.requires.0.no_more)
 
-pub overflow_cast-history : goal.overflow_cast-history
-overflow_cast-history c = omega (arith, c.shared_slice_known-in-loop-i-1.given (3 * c.args.n + c.loop-i.i))
-
 pub miss_entry-miss-requires : goal.miss_entry-miss-requires
 miss_entry-miss-requires c =
     let i = c.loop-i.i in
     let t = c.loop-i-test.true in
-    ((c.requires.0.entries, c.requires.0.histories i t), c.requires.0.misses i t)
+    record { entries = (c.requires.0.entries, c.requires.0.histories i t); bound = c.requires.0.misses i t }
 
 pub hit_entry-hit-requires : goal.hit_entry-hit-requires
 hit_entry-hit-requires c =
@@ -47,7 +43,7 @@ loop-i-preserved c =
     let y = c.hit_entry-hit.ensures in
     let out = c.loop-i.out in (
       omega arith,
-      c.put_row.auto.0 ∙ c.loop-i.invariant.1,
+      c.put_row.auto.out ∙ c.loop-i.invariant.1,
       c.put_row.ensures
           ∙ ap₂ (λ a b. take (7 + 4 * i) out ++ pair_bytes a (pair_bytes b (drop (7 + 4 * i + 4) out))) x y
           ∙ row_more m c.args.out.now out i (omega arith) c.loop-i.invariant.2,
