@@ -2,6 +2,7 @@
 // Writing refuses by 1 to 7, 21 and then by 9; reading back by 18, 1 to 7, 21, 20, 13, 19, 10 to 12 and then by 25.
 // Records of the version before, with fewer outcomes, are still read.
 #![tactic(auto)]
+
 ghost use Rattle.std.specs.Prelude.{◌≡◌, ◌≤◌};
 ghost use Rattle.layout.specs.Refusal.{first};
 ghost use Rattle.meaning.specs.Longest.{longest};

@@ -1,6 +1,7 @@
 // Each answer of the library as a flat record, for C and Rust: what the exported functions of `floelinnet` return.
 // Every record begins with the number of the refusal, 0 for none, and what the rules return beside it.
 #![tactic(auto)]
+
 ghost use Rattle.std.specs.Prelude.{◌≡◌};
 ghost use Rattle.flat.specs.Flat.{flat_set, flat_written, flat_verdict, flat_comparison, flat_built, flat_checked, flat_start, flat_ask, flat_tell, flat_opened, flat_read};
 

@@ -1,9 +1,6 @@
 -- `carry::is_old`: fewer than five bytes have no version, and 0 is none. Assumes nothing.
-use mathlib.Core.Path.{◌≡◌, sym, ap, ◌∙◌}
-use native.Mathlib.Omega.{arith}
-use borrow.Author.Rules.{rules}
+use mathlib.Core.Path.{sym, ap}
 use lib.Dec.{eqb}
-use Rattle.layout.specs.Bytes.{version}
 use Rattle.carry.specs.Bytes.{old_version}
 use Rattle.carry.proofs.Parts.{no_version}
 use Rattle.carry.proofs.is_old.Goals as goal

@@ -1,9 +1,8 @@
 -- `carry::read_record`: it reads the version that the record says. Assumes nothing.
-use mathlib.Core.Path.{◌≡◌, sym, ap, ap₂, subst, ◌∙◌}
+use mathlib.Core.Path.{sym, subst, ◌∙◌}
 use mathlib.Core.Bool.{Bool, cond}
 use mathlib.Core.List.{List}
 use Prim.Native.Nat.{ℕ}
-use borrow.Author.Rules.{rules}
 use Rattle.meaning.specs.Longest.{longest}
 use Rattle.guard.specs.declared.Started.{Started}
 use Rattle.carry.specs.Bytes.{old_version, new_version, old_carried, carried}

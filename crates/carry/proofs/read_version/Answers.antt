@@ -3,12 +3,11 @@ use mathlib.Core.Path.{◌≡◌, sym, ap, ap₂, subst, ◌∙◌}
 use mathlib.Core.Option.{Option, none, some}
 use mathlib.Core.Bool.{true, false}
 use mathlib.Core.List.{List, ◌++◌}
-use Prim.Native.Nat.{ℕ, ◌-◌}
+use Prim.Native.Nat.{ℕ, ◌-◌, ◌≤◌}
 use native.Mathlib.Omega.{arith}
-use borrow.Author.Rules.{rules}
 use lib.ListN.{length, replicate, length-append, length-replicate}
 use Rattle.layout.specs.Refusal.{passed, first}
-use Rattle.patterns.specs.Outcome.{outcome, outcome_rows, AllOutcomes}
+use Rattle.patterns.specs.Outcome.{outcome, outcome_rows}
 use Rattle.patterns.proofs.Outcomes.{outcomes_passed}
 use Rattle.machines.specs.Machine.{walk}
 use Rattle.meaning.specs.Longest.{longest}
@@ -27,119 +26,108 @@ use Rattle.carry.proofs.Parts.{hits_part, outcome_part, outcome_count}
 use Rattle.carry.proofs.Accepted.{Record, accepted_record}
 use Rattle.carry.proofs.Reading.{back_refused, back_table, back_nowhere, back_led}
 use Rattle.carry.proofs.Walking.{hits_passed, hits_outcomes, walked_lost, walked_kept}
-use Rattle.carry.proofs.read_version.Goals.{After-told-walked, In_default, In_default-answer, Start}
+use Rattle.carry.proofs.read_version.Goals.{After-told-walked, In_default, In_default-answer}
 use Rattle.carry.proofs.read_version.Goals as goal
 
--- past the record's tests
-module _ (c : In_default) where
-  abbrev s : Start
-  s = c.before.before.before.before.before
+-- the bytes told: hits for the outcomes that a record doesn't have, then its own
+abbrev bytes_told : (h : ℕ) → List ℕ → List ℕ
+bytes_told h r = replicate (carried - h) 1 ++ outcome_bytes h r
 
-  abbrev r : List ℕ
-  r = s.args.bytes.now
-
-  abbrev b : List ℕ
-  b = s.args.table.now
-
-  abbrev v : ℕ
-  v = s.args.version
-
-  abbrev h : ℕ
-  h = s.args.held
-
-  pub accepted : first (version_rows longest v h r) ≡ passed
-  accepted = sym c.test_record-tested.ensures ∙ ap start_says c.enum_told-1.given.1
-
-  pub right : Record longest v h r
-  right = accepted_record longest v h r accepted
-
-module _ (c : In_default-answer) where
-  abbrev e : In_default
-  e = c
-
-  pub checked : first (table_rows (b e)) ≡ passed
-  checked = sym c.start-started.ensures.refusal ∙ ap start_says c.enum_told-in_default-answer-1.given.1
-
-module _ (c : After-told-walked) where
-  abbrev t : In_default-answer
-  t = c
-
-  abbrev older : ℕ
-  older = carried - h (e t)
-
+-- where a record's outcomes lead is where the guard that was told them stands
+module _ (v h : ℕ) (r b : List ℕ) (most : h ≤ carried) (right : Record longest v h r) (checked : first (table_rows b) ≡ passed) (g : Guard) (told : g ≡ told_all b fresh (bytes_told h r)) where
   abbrev bytes : List ℕ
-  bytes = replicate older 1 ++ outcome_bytes (h (e t)) (r (e t))
-
-  abbrev walked : Guard
-  walked = told_all (b (e t)) fresh bytes
-
-  pub told_all : c.told-walked.result ≡ walked
-  told_all =
-      c.told-walked.ensures
-      ∙ ap₂ (λ g l. told_all (b (e t)) g l)
-      (c.told-older.ensures ∙ ap₂ (λ g l. told_all (b (e t)) g l) t.start-started.ensures.guard (hits_part carried (h (e t)) (s (e t)).pre))
-      (outcome_part (h (e t)) (r (e t)))
-      ∙ sym (told_then (b (e t)) fresh (replicate older 1) (outcome_bytes (h (e t)) (r (e t))))
+  bytes = bytes_told h r
 
   many : length bytes ≡ carried
-  many =
-      omega (arith, length-append (replicate older 1) (outcome_bytes (h (e t)) (r (e t))), length-replicate {A = ℕ} older 1, outcome_count (h (e t)) (r (e t)) (omega (arith, (right (e t)).least)), (s (e t)).pre)
+  many = omega (arith, length-append (replicate (carried - h) 1) (outcome_bytes h r), length-replicate {A = ℕ} (carried - h) 1, outcome_count h r (omega (arith, right.least)), most)
 
   all : first (outcome_rows bytes 0) ≡ passed
-  all = hits_passed older 0 (outcome_bytes (h (e t)) (r (e t))) ((outcomes_passed (outcome_bytes (h (e t)) (r (e t))) 0).0 (right (e t)).outcomes)
+  all = hits_passed (carried - h) 0 (outcome_bytes h r) ((outcomes_passed (outcome_bytes h r) 0).0 right.outcomes)
 
-  pub led_nowhere : c.told-walked.result.lost ≡ true → led_to carried (h (e t)) (r (e t)) (b (e t)) ≡ none
+  led_nowhere : g.lost ≡ true → led_to carried h r b ≡ none
   led_nowhere l =
-      ap (walk (machine_of (b (e t))) 0) (sym (hits_outcomes older (outcome_bytes (h (e t)) (r (e t)))))
-      ∙ walked_lost (b (e t)) (checked t) bytes all fresh.outcomes many (omega (arith, many)) (sym (ap (λ z. z.lost) told_all) ∙ l)
+      ap (walk (machine_of b) 0) (sym (hits_outcomes (carried - h) (outcome_bytes h r)))
+      ∙ walked_lost b checked bytes all fresh.outcomes many (omega (arith, many)) (sym (ap (λ z. z.lost) told) ∙ l)
 
-  pub led : c.told-walked.result.lost ≡ false
-      → (led_to carried (h (e t)) (r (e t)) (b (e t)) ≡ some c.told-walked.result.state) × (c.told-walked.result.outcomes ≡ outcomes_in carried (h (e t)) (r (e t)))
+  led : g.lost ≡ false → (led_to carried h r b ≡ some g.state) × (g.outcomes ≡ outcomes_in carried h r)
   led l =
-      let (w, o) = (walked_kept (b (e t)) (checked t) bytes all fresh.outcomes many (omega (arith, many)) (sym (ap (λ z. z.lost) told_all) ∙ l)) in
-      let os = hits_outcomes older (outcome_bytes (h (e t)) (r (e t))) in
-      (ap (walk (machine_of (b (e t))) 0) (sym os) ∙ w ∙ ap {B = Option ℕ} some (sym (ap (λ z. z.state) told_all)), ap (λ z. z.outcomes) told_all ∙ o ∙ os)
+      let (w, o) = walked_kept b checked bytes all fresh.outcomes many (omega (arith, many)) (sym (ap (λ z. z.lost) told) ∙ l) in
+      let os = hits_outcomes (carried - h) (outcome_bytes h r) in
+      (ap (walk (machine_of b) 0) (sym os) ∙ w ∙ ap {B = Option ℕ} some (sym (ap (λ z. z.state) told)), ap (λ z. z.outcomes) told ∙ o ∙ os)
+
+-- past the record's tests
+accepted : (c : In_default) → first (version_rows longest c.args.version c.args.held c.args.bytes.now) ≡ passed
+accepted c = sym c.in_default.ensures
+
+right : (c : In_default) → Record longest c.args.version c.args.held c.args.bytes.now
+right c = accepted_record longest c.args.version c.args.held c.args.bytes.now (accepted c)
+
+-- past the table's
+checked : (c : In_default-answer) → first (table_rows c.args.table.now) ≡ passed
+checked c = sym c.start-started.ensures.refusal ∙ ap start_says c.in_default-answer.is
+
+told : (c : After-told-walked) → c.told-walked.result ≡ told_all c.args.table.now fresh (bytes_told c.args.held c.args.bytes.now)
+told c =
+    let h = c.args.held in
+    let r = c.args.bytes.now in
+    let b = c.args.table.now in
+    c.told-walked.ensures
+    ∙ ap₂ (λ g l. told_all b g l)
+    (c.told-older.ensures ∙ ap₂ (λ g l. told_all b g l) c.start-started.ensures.guard (hits_part carried h c.requires))
+    (outcome_part h r)
+    ∙ sym (told_then b fresh (replicate (carried - h) 1) (outcome_bytes h r))
 
 pub returns-in-Refused : goal.returns-in-Refused
 returns-in-Refused c =
     let a = c.args in
     subst (ReadInVersion longest carried a.version a.held a.bytes.now a.table.now) (sym c.refused.ensures)
-    (back_refused longest carried a.version a.held a.bytes.now a.table.now _ _ (sym c.test_record-tested.ensures ∙ ap start_says c.tested-1.given.1))
+    (back_refused longest carried a.version a.held a.bytes.now a.table.now _ _ (sym c.in-Refused.ensures))
 
 pub returns-in-Refused-answer : goal.returns-in-Refused-answer
 returns-in-Refused-answer c =
-    subst (ReadInVersion longest carried (v (goal.at.returns-in-Refused-answer c).In_default) (h (goal.at.returns-in-Refused-answer c).In_default) (r (goal.at.returns-in-Refused-answer c).In_default) (b (goal.at.returns-in-Refused-answer c).In_default)) (sym c.refused-in-Refused-answer.ensures)
-    (back_table longest carried (v (goal.at.returns-in-Refused-answer c).In_default) (h (goal.at.returns-in-Refused-answer c).In_default) (r (goal.at.returns-in-Refused-answer c).In_default) (b (goal.at.returns-in-Refused-answer c).In_default) (accepted (goal.at.returns-in-Refused-answer c).In_default) _ _ (sym c.start-started.ensures.refusal ∙ ap start_says c.answer-1.given.1))
-
-pub overflow_sub-end : goal.overflow_sub-end
-overflow_sub-end c = omega (arith, (right (e (goal.at.overflow_sub-end c).In_default)).least)
-
-pub MISSING-slice-bounds-told-end-2 : goal.MISSING-slice-bounds-told-end-2
-MISSING-slice-bounds-told-end-2 c = omega (arith, (right (e (goal.at.MISSING-slice-bounds-told-end-2 c).In_default)).least)
+    let a = c.args in
+    subst (ReadInVersion longest carried a.version a.held a.bytes.now a.table.now) (sym c.refused-in-Refused-answer.ensures)
+    (back_table longest carried a.version a.held a.bytes.now a.table.now (accepted (goal.at.returns-in-Refused-answer c).In_default) _ _ (sym c.start-started.ensures.refusal ∙ ap start_says c.in-Refused-answer.is))
 
 pub returns-then-walked : goal.returns-then-walked
 returns-then-walked c =
-    let i = e (t (goal.at.returns-then-walked c).In_default) in
-    subst (ReadInVersion longest carried (v i) (h i) (r i) (b i)) (sym c.refused-then-walked.ensures)
-    (back_nowhere longest carried (v i) (h i) (r i) (b i) (accepted i) (checked (t (goal.at.returns-then-walked c).In_default)) (led_nowhere (goal.at.returns-then-walked c).In_default c.if-walked.true))
-
-pub MISSING-overflow-sub-t21 : goal.MISSING-overflow-sub-t21
-MISSING-overflow-sub-t21 c = omega (arith, (right (e (t (goal.at.MISSING-overflow-sub-t21 c).In_default))).least)
-
-pub MISSING-shared-slice-read-t30 : goal.MISSING-shared-slice-read-t30
-MISSING-shared-slice-read-t30 c = omega (arith, (right (e (t (goal.at.MISSING-shared-slice-read-t30 c).In_default))).least)
-
-pub overflow_sub-n : goal.overflow_sub-n
-overflow_sub-n c = omega (arith, (right (e (t (goal.at.overflow_sub-n c).In_default))).least)
-
-pub eight_at-requires : goal.eight_at-requires
-eight_at-requires c = omega (arith, (right (e (t (goal.at.eight_at-requires c).In_default))).least)
+    let a = c.args in
+    let h = a.held in
+    let r = a.bytes.now in
+    let b = a.table.now in
+    let at = goal.at.returns-then-walked c in
+    let k = checked at.In_default-answer in
+    subst (ReadInVersion longest carried a.version h r b) (sym c.refused-then-walked.ensures)
+    (back_nowhere longest carried a.version h r b (accepted at.In_default) k (led_nowhere a.version h r b c.requires (right at.In_default) k c.told-walked.result (told at.After-told-walked) c.if-walked.true))
 
 pub returns : goal.returns
 returns c =
-    let i = e (t (goal.at.returns c).In_default) in
-    let (w, o) = led (goal.at.returns c).In_default c.if-walked.false in
+    let a = c.args in
+    let h = a.held in
+    let r = a.bytes.now in
+    let b = a.table.now in
+    let at = goal.at.returns c in
+    let k = checked at.In_default-answer in
+    let (w, o) = led a.version h r b c.requires (right at.In_default) k c.told-walked.result (told at.After-told-walked) c.if-walked.false in
     let to = c.told-walked.result.state in
-    subst (ReadInVersion longest carried (v i) (h i) (r i) (b i))
-    (ap₂ {C = Started} (λ os n. record { answer = start.Started; guard = record { state = to; lost = outcome (lost_byte (r i)); outcomes = os; count = n } }) (sym o) (sym c.eight_at.ensures))
-    (back_led longest carried (v i) (h i) (r i) (b i) (accepted i) (checked (t (goal.at.returns c).In_default)) to w)
+    subst (ReadInVersion longest carried a.version h r b)
+    (ap₂ {C = Started} (λ os n. record { answer = start.Started; guard = record { state = to; lost = outcome (lost_byte r); outcomes = os; count = n } }) (sym o) (sym c.eight_at.ensures))
+    (back_led longest carried a.version h r b (accepted at.In_default) k to w)
+
+pub overflow_sub-end : goal.overflow_sub-end
+overflow_sub-end c = omega (arith, (right (goal.at.overflow_sub-end c).In_default).least)
+
+pub slice_bounds-told-end-2 : goal.slice_bounds-told-end-2
+slice_bounds-told-end-2 c = omega (arith, (right (goal.at.slice_bounds-told-end-2 c).In_default).least)
+
+pub overflow_sub-n : goal.overflow_sub-n
+overflow_sub-n c = omega (arith, (right (goal.at.overflow_sub-n c).In_default).least)
+
+pub overflow_sub-result : goal.overflow_sub-result
+overflow_sub-result c = omega (arith, (right (goal.at.overflow_sub-result c).In_default).least)
+
+pub bounds-bytes-n : goal.bounds-bytes-n
+bounds-bytes-n c = omega (arith, (right (goal.at.bounds-bytes-n c).In_default).least)
+
+pub eight_at-requires : goal.eight_at-requires
+eight_at-requires c = omega (arith, (right (goal.at.eight_at-requires c).In_default).least)

@@ -1,6 +1,5 @@
 -- `carry::refused`: beside the refusal stands the guard with nothing told. Assumes nothing.
 use mathlib.Core.Path.{ap}
-use borrow.Author.Rules.{rules}
 use Rattle.guard.specs.declared.Started.{Started}
 use Rattle.guard.specs.declared.StartAnswer.TheVariants as start
 use Rattle.carry.proofs.refused.Goals as goal

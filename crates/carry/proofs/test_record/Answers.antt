@@ -1,13 +1,12 @@
 -- `carry::test_record`: each refusal is the first row that holds. Assumes nothing.
 use mathlib.Core.Path.{◌≡◌, sym, ap, ◌∙◌}
 use mathlib.Core.List.{List, [], ◌∷◌, ◌++◌}
-use Prim.Native.Nat.{ℕ, suc, ◌+◌, ◌≤◌}
+use Prim.Native.Nat.{ℕ, suc, ◌+◌, ◌-◌, ◌≤◌}
 use native.Mathlib.Numerals.{add-one}
 use native.Mathlib.Omega.{arith}
-use borrow.Author.Rules.{rules}
 use borrow.Author.Tests.{lt-ltb, le-ltb}
 use lib.Dec.{ltb}
-use lib.ListN.{length}
+use lib.ListN.{length, take, drop}
 use Rattle.layout.specs.Refusal.{Row, row, passed, first}
 use Rattle.layout.specs.Head.{head_rows}
 use Rattle.layout.proofs.Head.{no_fault, head_passed, fault_before}
@@ -38,73 +37,50 @@ after_set h r = row 20 (wider (suc h) (set_of (set_in h r))) 0 ∷ after_width h
 abbrev after_head : (h : ℕ) → List ℕ → List Row
 after_head h r = set_rows longest (set_in h r) ++ after_set h r
 
--- past 18
-module _ (c : Else-number-ne0) where
-  abbrev r : List ℕ
-  r = c.args.bytes.now
-
-  abbrev v : ℕ
-  v = c.args.version
-
-  abbrev h : ℕ
-  h = c.args.held
-
-  pub head : first (head_rows (around_set h) v 18 18 r) ≡ passed
-  head = c.head_fault-number.ensures ∙ no_fault c.head_fault-number.result 0 (omega (arith, c.if-number-ne0.false))
-
-  pub long : around_set h ≤ length r
-  long = (head_passed (around_set h) v 18 18 r head).0
-
-  pub past_head : first (version_rows longest v h r) ≡ first (after_head h r)
+-- what is left of the rows, where those before are passed
+module _ (v h : ℕ) (r : List ℕ) (head : first (head_rows (around_set h) v 18 18 r) ≡ passed) where
+  past_head : first (version_rows longest v h r) ≡ first (after_head h r)
   past_head = passed_before (head_rows (around_set h) v 18 18 r) (after_head h r) head
 
-module _ (c : In_default) where
-  abbrev e : Else-number-ne0
-  e = c
+  module _ (taken : first (set_rows longest (set_in h r)) ≡ passed) where
+    past_set : first (version_rows longest v h r) ≡ first (after_set h r)
+    past_set = past_head ∙ passed_before (set_rows longest (set_in h r)) (after_set h r) taken
 
-  pub taken : first (set_rows longest (set_in (h e) (r e))) ≡ passed
-  taken =
-      ap (λ l. first (set_rows longest l)) (sym (set_part (h e) (r e)))
-      ∙ accepted_rows longest _ c.read_set-read.result c.read_set-read.ensures c.enum_told-1.given.1
+    module _ (filled : first (set_rows (suc h) (set_in h r)) ≡ passed) where
+      past_width : first (version_rows longest v h r) ≡ first (after_width h r)
+      past_width = past_set ∙ first_skip 20 0 _ _ (taken_not_wider longest (suc h) (set_in h r) filled)
 
-  pub past_set : first (version_rows longest (v e) (h e) (r e)) ≡ first (after_set (h e) (r e))
-  past_set = past_head e ∙ passed_before (set_rows longest (set_in (h e) (r e))) (after_set (h e) (r e)) taken
+      past_outcomes : first (outcome_rows (outcome_bytes h r) 0) ≡ passed → first (version_rows longest v h r) ≡ first (after_outcomes r)
+      past_outcomes p = past_width ∙ passed_before (outcome_rows (outcome_bytes h r) 0) (after_outcomes r) p
 
-module _ (c : In-Accepted) where
-  abbrev s : In_default
-  s = c
+-- the code takes the set with a number that it adds 1 to
+one_more : (h : ℕ) (r : List ℕ) → first (set_rows (suc h) (set_in h r)) ≡ first (set_rows (h + 1) (take (length r - (h + 9) - 5) (drop 5 r)))
+one_more h r = ap (λ z. first (set_rows z (set_in h r))) (sym (add-one h)) ∙ ap (λ l. first (set_rows (h + 1) l)) (sym (set_part h r))
 
-  pub past_width : first (version_rows longest (v (e s)) (h (e s)) (r (e s))) ≡ first (after_width (h (e s)) (r (e s)))
-  past_width =
-      let w = c.read_set_within-filled in
-      let k = h (e s) in
-      past_set s
-      ∙ first_skip 20 0 _ _
-      (taken_not_wider longest (suc k) (set_in k (r (e s)))
-      (ap (λ z. first (set_rows z (set_in k (r (e s))))) (sym (add-one k))
-      ∙ ap (λ l. first (set_rows (k + 1) l)) (sym (set_part k (r (e s))))
-      ∙ accepted_rows (k + 1) _ w.result w.ensures c.enum_told-in-Accepted-1.given.1))
+head : (c : Else-number-ne0) → first (head_rows (around_set c.args.held) c.args.version 18 18 c.args.bytes.now) ≡ passed
+head c = c.head_fault-number.ensures ∙ no_fault c.head_fault-number.result 0 (omega (arith, c.if-number-ne0.false))
 
-module _ (c : After-first_bad-bad) where
-  abbrev g : Else-number-ne0
-  g = e (s c.before)
+long : (c : Else-number-ne0) → around_set c.args.held ≤ length c.args.bytes.now
+long c = (head_passed (around_set c.args.held) c.args.version 18 18 c.args.bytes.now (head c)).0
 
-  pub tested : first (outcome_rows (outcome_bytes (h g) (r g)) 0) ≡ bad_place c.first_bad-bad.result (h g)
-  tested =
-      ap (λ l. first (outcome_rows l 0)) (sym (outcome_part (h g) (r g)))
-      ∙ c.first_bad-bad.ensures.1
-      ∙ ap (bad_place c.first_bad-bad.result) (ap length (outcome_part (h g) (r g)) ∙ outcome_count (h g) (r g) (omega (arith, long g)))
+taken : (c : In_default) → first (set_rows longest (set_in c.args.held c.args.bytes.now)) ≡ passed
+taken c =
+    ap (λ l. first (set_rows longest l)) (sym (set_part c.args.held c.args.bytes.now))
+    ∙ accepted_rows longest _ c.read_set-read.result c.read_set-read.ensures c.in_default.is
 
--- past the set
--- past 20
+filled : (c : In-Accepted) → first (set_rows (suc c.args.held) (set_in c.args.held c.args.bytes.now)) ≡ passed
+filled c =
+    one_more c.args.held c.args.bytes.now
+    ∙ accepted_rows (c.args.held + 1) _ c.read_set_within-filled.result c.read_set_within-filled.ensures c.in-Accepted.is
+
 -- what the test for 13 says
--- past 13
-past_outcomes : (c : Else-bad-held) → first (version_rows longest (v (g c.before.before.before.before.before.before.before.before.before.before.before)) (h (g c.before.before.before.before.before.before.before.before.before.before.before)) (r (g c.before.before.before.before.before.before.before.before.before.before.before))) ≡ first (after_outcomes (r (g c.before.before.before.before.before.before.before.before.before.before.before)))
-past_outcomes c =
-    let k = h (g c.before.before.before.before.before.before.before.before.before.before.before) in
-    let b = r (g c.before.before.before.before.before.before.before.before.before.before.before) in
-    past_width c.before.before.before.before.before.before.before.before.before.before.before
-    ∙ passed_before (outcome_rows (outcome_bytes k b) 0) (after_outcomes b) (tested c.before.before.before.before.before.before.before.before.before.before.before ∙ simp (le-ltb _ _ c.if-bad-held.false))
+tested : (c : After-first_bad-bad) → around_set c.args.held ≤ length c.args.bytes.now → first (outcome_rows (outcome_bytes c.args.held c.args.bytes.now) 0) ≡ bad_place c.first_bad-bad.result c.args.held
+tested c l =
+    let h = c.args.held in
+    let r = c.args.bytes.now in
+    ap (λ l. first (outcome_rows l 0)) (sym (outcome_part h r))
+    ∙ c.first_bad-bad.ensures.1
+    ∙ ap (bad_place c.first_bad-bad.result) (ap length (outcome_part h r) ∙ outcome_count h r (omega (arith, l)))
 
 pub returns-then-number-ne0 : goal.returns-then-number-ne0
 returns-then-number-ne0 c =
@@ -113,62 +89,77 @@ returns-then-number-ne0 c =
     let b = a.bytes.now in
     sym (fault_before (head_rows (around_set a.held) a.version 18 18 b) (after_head a.held b) f.result 0 f.ensures c.if-number-ne0.true)
 
+pub returns-in-Refused : goal.returns-in-Refused
+returns-in-Refused c =
+    let a = c.args in
+    let h = a.held in
+    let r = a.bytes.now in
+    sym
+    (past_head a.version h r (head (goal.at.returns-in-Refused c).Else-number-ne0)
+    ∙ refused_before (set_rows longest (set_in h r)) (after_set h r)
+    (ap (λ l. first (set_rows longest l)) (sym (set_part h r)) ∙ refused_rows longest _ c.read_set-read.result c.read_set-read.ensures _ _ c.in-Refused.is))
+
+pub returns-in_default-within : goal.returns-in_default-within
+returns-in_default-within c =
+    let w = c.read_set_within-filled in
+    let a = c.args in
+    let h = a.held in
+    let r = a.bytes.now in
+    let at = goal.at.returns-in_default-within c in
+    let t = taken at.In_default in
+    sym
+    (past_set a.version h r (head at.Else-number-ne0) t
+    ∙ first_here 20 0 _ _
+    (not_taken_wider longest (suc h) (set_in h r) t (λ p.
+    passed_not_refused (sym p ∙ one_more h r ∙ refused_rows (h + 1) _ w.result w.ensures _ _ c.in_default-within.is))))
+
+pub returns-then-bad-held : goal.returns-then-bad-held
+returns-then-bad-held c =
+    let a = c.args in
+    let h = a.held in
+    let r = a.bytes.now in
+    let at = goal.at.returns-then-bad-held c in
+    sym
+    (past_width a.version h r (head at.Else-number-ne0) (taken at.In_default) (filled at.In-Accepted)
+    ∙ refused_before (outcome_rows (outcome_bytes h r) 0) (after_outcomes r) (tested at.After-first_bad-bad (long at.Else-number-ne0) ∙ simp (lt-ltb _ _ c.if-bad-held.true)))
+
+pub returns-then-bytes-n-gt1 : goal.returns-then-bytes-n-gt1
+returns-then-bytes-n-gt1 c =
+    let a = c.args in
+    let at = goal.at.returns-then-bytes-n-gt1 c in
+    sym
+    (past_outcomes a.version a.held a.bytes.now (head at.Else-number-ne0) (taken at.In_default) (filled at.In-Accepted) (tested at.After-first_bad-bad (long at.Else-number-ne0) ∙ simp (le-ltb _ _ c.if-bad-held.false))
+    ∙ first_here 19 0 _ [] (lt-ltb _ _ c.if-bytes-n-gt1.true))
+
+pub returns : goal.returns
+unfolding first
+returns c =
+    let a = c.args in
+    let at = goal.at.returns c in
+    sym
+    (past_outcomes a.version a.held a.bytes.now (head at.Else-number-ne0) (taken at.In_default) (filled at.In-Accepted) (tested at.After-first_bad-bad (long at.Else-number-ne0) ∙ simp (le-ltb _ _ c.if-bad-held.false))
+    ∙ first_skip 19 0 _ [] (le-ltb _ _ c.if-bytes-n-gt1.false))
+
 pub overflow_sub-end : goal.overflow_sub-end
 overflow_sub-end c = omega (arith, long (goal.at.overflow_sub-end c).Else-number-ne0)
 
 pub slice_bounds-read_set-count : goal.slice_bounds-read_set-count
 slice_bounds-read_set-count c = omega (arith, long (goal.at.slice_bounds-read_set-count c).Else-number-ne0)
 
-pub MISSING-slice-bounds-read-set-start : goal.MISSING-slice-bounds-read-set-start
-MISSING-slice-bounds-read-set-start c = omega (arith, long (goal.at.MISSING-slice-bounds-read-set-start c).Else-number-ne0)
-
-pub returns-in-Refused : goal.returns-in-Refused
-returns-in-Refused c =
-    sym
-    (past_head (goal.at.returns-in-Refused c).Else-number-ne0
-    ∙ refused_before (set_rows longest (set_in (h (goal.at.returns-in-Refused c).Else-number-ne0) (r (goal.at.returns-in-Refused c).Else-number-ne0))) (after_set (h (goal.at.returns-in-Refused c).Else-number-ne0) (r (goal.at.returns-in-Refused c).Else-number-ne0))
-    (ap (λ l. first (set_rows longest l)) (sym (set_part (h (goal.at.returns-in-Refused c).Else-number-ne0) (r (goal.at.returns-in-Refused c).Else-number-ne0))) ∙ refused_rows longest _ c.read_set-read.result c.read_set-read.ensures _ _ c.answer-1.given.1))
+pub slice_bounds-read_set-start : goal.slice_bounds-read_set-start
+slice_bounds-read_set-start c = omega (arith, long (goal.at.slice_bounds-read_set-start c).Else-number-ne0)
 
 pub slice_bounds-read_set_within-count : goal.slice_bounds-read_set_within-count
-slice_bounds-read_set_within-count c = omega (arith, long (e (goal.at.slice_bounds-read_set_within-count c).Else-number-ne0))
+slice_bounds-read_set_within-count c = omega (arith, long (goal.at.slice_bounds-read_set_within-count c).Else-number-ne0)
 
-pub MISSING-slice-bounds-read-set-within-start : goal.MISSING-slice-bounds-read-set-within-start
-MISSING-slice-bounds-read-set-within-start c = omega (arith, long (e (goal.at.MISSING-slice-bounds-read-set-within-start c).Else-number-ne0))
+pub slice_bounds-read_set_within-start : goal.slice_bounds-read_set_within-start
+slice_bounds-read_set_within-start c = omega (arith, long (goal.at.slice_bounds-read_set_within-start c).Else-number-ne0)
 
-pub returns-in_default-within : goal.returns-in_default-within
-returns-in_default-within c =
-    let w = c.read_set_within-filled in
-    let k = h (e (goal.at.returns-in_default-within c).Else-number-ne0) in
-    sym
-    (past_set (goal.at.returns-in_default-within c).Else-number-ne0
-    ∙ first_here 20 0 _ _
-    (not_taken_wider longest (suc k) (set_in k (r (e (goal.at.returns-in_default-within c).Else-number-ne0))) (taken (goal.at.returns-in_default-within c).Else-number-ne0) (λ p.
-    passed_not_refused
-    (sym p
-    ∙ ap (λ z. first (set_rows z (set_in k (r (e (goal.at.returns-in_default-within c).Else-number-ne0))))) (sym (add-one k))
-    ∙ ap (λ l. first (set_rows (k + 1) l)) (sym (set_part k (r (e (goal.at.returns-in_default-within c).Else-number-ne0))))
-    ∙ refused_rows (k + 1) _ w.result w.ensures _ _ c.enum_told-in_default-within-1.given.1))))
-
-pub MISSING-slice-bounds-first-bad-end : goal.MISSING-slice-bounds-first-bad-end
-MISSING-slice-bounds-first-bad-end c = omega (arith, long (e (s (goal.at.MISSING-slice-bounds-first-bad-end c).Else-number-ne0)))
-
-pub returns-then-bad-held : goal.returns-then-bad-held
-returns-then-bad-held c =
-    let k = h (g (goal.at.returns-then-bad-held c).Else-number-ne0) in
-    let b = r (g (goal.at.returns-then-bad-held c).Else-number-ne0) in
-    sym
-    (past_width (goal.at.returns-then-bad-held c).Else-number-ne0
-    ∙ refused_before (outcome_rows (outcome_bytes k b) 0) (after_outcomes b) (tested (goal.at.returns-then-bad-held c).Else-number-ne0 ∙ simp (lt-ltb _ _ c.if-bad-held.true)))
+pub slice_bounds-first_bad-end : goal.slice_bounds-first_bad-end
+slice_bounds-first_bad-end c = omega (arith, long (goal.at.slice_bounds-first_bad-end c).Else-number-ne0)
 
 pub overflow_sub-n : goal.overflow_sub-n
-overflow_sub-n c = omega (arith, long (g (goal.at.overflow_sub-n c).Else-number-ne0))
+overflow_sub-n c = omega (arith, long (goal.at.overflow_sub-n c).Else-number-ne0)
 
 pub bounds-bytes-n : goal.bounds-bytes-n
-bounds-bytes-n c = omega (arith, long (g (goal.at.bounds-bytes-n c).Else-number-ne0))
-
-pub returns-then-bytes-n-gt1 : goal.returns-then-bytes-n-gt1
-returns-then-bytes-n-gt1 c = sym (past_outcomes (goal.at.returns-then-bytes-n-gt1 c).Else-bad-held ∙ first_here 19 0 _ [] (lt-ltb _ _ c.if-bytes-n-gt1.true))
-
-pub returns : goal.returns
-unfolding first
-returns c = sym (past_outcomes (goal.at.returns c).Else-bad-held ∙ first_skip 19 0 _ [] (le-ltb _ _ c.if-bytes-n-gt1.false))
+bounds-bytes-n c = omega (arith, long (goal.at.bounds-bytes-n c).Else-number-ne0)

@@ -1,9 +1,8 @@
 -- `carry::told`: telling what is left, from here on, is telling all. Assumes nothing.
-use mathlib.Core.Path.{◌≡◌, refl, sym, ap, ◌∙◌}
-use Prim.Native.Nat.{◌+◌, ◌-◌, ◌≤◌}
+use mathlib.Core.Path.{refl, sym, ap, ◌∙◌}
+use Prim.Native.Nat.{◌+◌}
 use native.Mathlib.Omega.{arith}
-use borrow.Author.Rules.{rules}
-use lib.ListN.{length, drop}
+use lib.ListN.{drop}
 use Rattle.guard.specs.Told.{told_all}
 use Rattle.carry.proofs.Turns.{told_next, told_last}
 use Rattle.carry.proofs.told.Goals as goal

@@ -1,11 +1,8 @@
 -- `carry::told`: telling what is left, from here on, is telling all. Assumes nothing.
-use mathlib.Core.Path.{◌≡◌, refl, sym, ap, ◌∙◌}
-use Prim.Native.Nat.{◌+◌, ◌-◌, ◌≤◌}
-use native.Mathlib.Omega.{arith}
-use borrow.Author.Rules.{rules}
+use mathlib.Core.Path.{◌≡◌}
+use Prim.Native.Nat.{◌-◌, ◌≤◌}
 use lib.ListN.{length, drop}
 use Rattle.guard.specs.Told.{told_all}
-use Rattle.carry.proofs.Turns.{told_next, told_last}
 use Rattle.carry.proofs.told.Given as goal
 
 abbrev pub invariant-loop-i : goal.invariant-loop-i

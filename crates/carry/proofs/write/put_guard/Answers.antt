@@ -19,12 +19,12 @@ held s = search rules
 
 pub shape_of-out : goal.shape_of-out
 shape_of-out c =
-    length-set c.put_eight.new.0 _ _ ∙ c.put_eight.auto.0 ∙ c.put_outcomes.auto.0
+    length-set c.put_eight.new.out _ _ ∙ c.put_eight.auto.out ∙ c.put_outcomes.auto.out
 
 pub returns : goal.returns
 returns c =
     let d = c.args.out.now in
     let g = c.args.guard in
-    ap (set c.put_eight.new.0 (c.args.at + carried + 8)) (cast_bit g.lost)
-    ∙ tail_written d c.put_outcomes.new.0 c.put_eight.new.0 (map bit g.outcomes) (eight_bytes g.count) c.args.at carried 8 (bit g.lost)
+    ap (set c.put_eight.new.out (c.args.at + carried + 8)) (cast_bit g.lost)
+    ∙ tail_written d c.put_outcomes.new.out c.put_eight.new.out (map bit g.outcomes) (eight_bytes g.count) c.args.at carried 8 (bit g.lost)
     (omega arith) (length-map g.outcomes bit ∙ held (goal.at.returns c).Start) refl c.put_outcomes.ensures c.put_eight.ensures

@@ -1,13 +1,9 @@
 -- `carry::write::put_outcomes` meets its contract. The invariant: from the place on stand the first i outcomes' bytes, and then what stood there. Assumes nothing.
 use mathlib.Core.List.{map}
 use Prim.Native.Nat.{◌-◌, ◌≤◌}
-use native.Mathlib.Omega.{arith}
-use borrow.Author.Rules.{rules}
-use lib.ListN.{length-map}
-use Rattle.layout.proofs.Runs.{Pasted, pasted_none, pasted_turn, pasted_all}
+use Rattle.layout.proofs.Runs.{Pasted}
 use Rattle.patterns.specs.Outcome.{bit}
 use Rattle.carry.specs.Bytes.{carried}
-use Rattle.carry.proofs.Writing.{cast_at}
 use Rattle.carry.proofs.write.put_outcomes.Given as goal
 
 abbrev pub invariant-loop-i : goal.invariant-loop-i

@@ -1,11 +1,7 @@
 -- `carry::write::put_set` meets its contract. The length field and the version stand first; the invariant: past byte 5 stand the first i bytes of the set, and then what stood there. Assumes nothing.
-use mathlib.Core.Path.{refl, ◌∙◌}
 use Prim.Native.Nat.{◌+◌, ◌-◌, ◌≤◌}
-use native.Mathlib.Omega.{arith}
-use borrow.Author.Rules.{rules}
-use lib.ListN.{length, length-set}
-use Rattle.layout.proofs.Runs.{put_after_head, Pasted, pasted_none, pasted_turn, pasted_all}
-use Rattle.carry.specs.Bytes.{new_version, carried, tail_size}
+use lib.ListN.{length}
+use Rattle.layout.proofs.Runs.{Pasted}
 use Rattle.carry.proofs.write.put_set.Given as goal
 
 abbrev pub invariant-loop-i : goal.invariant-loop-i

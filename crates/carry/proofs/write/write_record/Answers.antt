@@ -3,7 +3,6 @@ use mathlib.Core.Path.{◌≡◌, refl, ap, ◌∙◌}
 use mathlib.Core.List.{◌++◌}
 use Prim.Native.Nat.{◌+◌}
 use native.Mathlib.Omega.{arith}
-use borrow.Author.Rules.{rules}
 use lib.ListN.{length, take, drop}
 use Rattle.layout.specs.Refusal.{passed, first}
 use Rattle.layout.proofs.Rows.{refused_before, passed_before, too_short, long_enough}
@@ -18,7 +17,7 @@ use Rattle.carry.proofs.write.write_record.Goals.{In_default}
 use Rattle.carry.proofs.write.write_record.Goals as goal
 
 at_room : (c : In_default) → first (set_rows longest c.args.set.now) ≡ passed
-at_room c = let r = c.read_set-read in accepted_rows longest c.args.set.now r.result r.ensures c.enum_told-1.given.1
+at_room c = let r = c.read_set-read in accepted_rows longest c.args.set.now r.result r.ensures c.in_default.is
 
 head : (c : In_default) → Head c.args.set.now
 head c = accepted_head longest c.args.set.now (at_room c)
@@ -26,7 +25,7 @@ head c = accepted_head longest c.args.set.now (at_room c)
 pub returns-in-Refused : goal.returns-in-Refused
 returns-in-Refused c =
     let s = c.args in
-    written_by _ _ _ s.out.now _ _ _ (refused_before _ _ (refused_rows longest s.set.now c.read_set-read.result c.read_set-read.ensures _ _ c.answer-1.given.1)) refl refl refl
+    written_by _ _ _ s.out.now _ _ _ (refused_before _ _ (refused_rows longest s.set.now c.read_set-read.result c.read_set-read.ensures _ _ c.in-Refused.is)) refl refl refl
 
 pub returns-then-out-size : goal.returns-then-out-size
 returns-then-out-size c =
