@@ -1,6 +1,5 @@
 -- `printing::print_input`: what `print_set` prints of the bytes that were read, in buffers that are large enough. Assumes nothing.
 use mathlib.Core.Path.{sym}
-use borrow.Author.Rules.{rules}
 use native.Mathlib.Omega.{arith}
 use lib.Seq.{length-take-le}
 use Rattle.printing.proofs.Enough.{printed_whole}

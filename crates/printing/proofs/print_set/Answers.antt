@@ -1,6 +1,5 @@
 -- `printing::print_set`: an input that is too long, and else what the builder answers, each with its text. Assumes nothing.
-use mathlib.Core.Path.{sym}
-use borrow.Author.Rules.{rules}
+use mathlib.Core.Path.{refl, sym}
 use native.Mathlib.Omega.{arith}
 use lib.Seq.{length-take-le}
 use Rattle.printing.specs.Longest.{printed_longest}
@@ -14,16 +13,16 @@ returns-then-input-gt-MOST_BYTES c =
 
 pub slice_bounds-put_table-end : goal.slice_bounds-put_table-end
 slice_bounds-put_table-end c =
-    built_room printed_longest c.args.input.now c.args.work.now _ c.args.table.now _ c.answer-in-Built-1.given.1 c.build_within-answer.ensures
+    built_room printed_longest c.args.input.now c.args.work.now _ c.args.table.now _ refl c.in-Built.ensures
 
 pub slice_bounds-put_table-end-in-Built : goal.slice_bounds-put_table-end-in-Built
 slice_bounds-put_table-end-in-Built c =
-    sym (length-take-le _ _ (built_room printed_longest c.args.input.now c.args.work.now _ c.args.table.now _ c.answer-in-Built-1.given.1 c.build_within-answer.ensures))
+    sym (length-take-le _ _ (built_room printed_longest c.args.input.now c.args.work.now _ c.args.table.now _ refl c.in-Built.ensures))
 
 pub returns-in-Refused : goal.returns-in-Refused
 returns-in-Refused c =
-    printed_refused printed_longest c.args.input.now c.args.work.now c.args.table.now c.args.out.now _ _ _ _ c.if-input-gt-MOST_BYTES.false c.answer-1.given.1 c.build_within-answer.ensures (adds_from_start _ _ _ _ c.put_refusal-in-Refused.ensures)
+    printed_refused printed_longest c.args.input.now c.args.work.now c.args.table.now c.args.out.now _ _ _ _ c.if-input-gt-MOST_BYTES.false refl c.in-Refused.ensures (adds_from_start _ _ _ _ c.put_refusal-in-Refused.ensures)
 
 pub returns-in-Built : goal.returns-in-Built
 returns-in-Built c =
-    printed_built printed_longest c.args.input.now c.args.work.now c.args.table.now c.args.out.now _ _ _ _ c.if-input-gt-MOST_BYTES.false (omega arith) c.answer-in-Built-1.given.1 c.build_within-answer.ensures (adds_from_start _ _ _ _ c.put_table.ensures)
+    printed_built printed_longest c.args.input.now c.args.work.now c.args.table.now c.args.out.now _ _ _ _ c.if-input-gt-MOST_BYTES.false (omega arith) refl c.in-Built.ensures (adds_from_start _ _ _ _ c.put_table.ensures)

@@ -1,5 +1,4 @@
 -- `printing::lines::put_head`: the pieces of the line, one after another. Assumes nothing.
-use borrow.Author.Rules.{rules}
 use Rattle.printing.proofs.Adding.{adds_then}
 use Rattle.printing.proofs.lines.put_head.Goals as goal
 

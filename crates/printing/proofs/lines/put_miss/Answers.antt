@@ -1,5 +1,4 @@
 -- `printing::lines::put_miss`: a number where a miss is allowed, and else the one character. Assumes nothing.
-use borrow.Author.Rules.{rules}
 use Rattle.printing.proofs.lines.put_miss.Goals as goal
 
 pub returns-then-moves : goal.returns-then-moves

@@ -1,15 +1,10 @@
 -- `printing::lines::put_states`: after a turn for each state its line is added. Assumes nothing.
-use mathlib.Core.Path.{◌≡◌, sym, ap}
+use mathlib.Core.Path.{◌≡◌}
 use Prim.Native.Nat.{◌≤◌, ◌-◌}
-use native.Mathlib.Omega.{arith}
-use borrow.Author.Rules.{rules}
 use lib.ListN.{length}
 use Rattle.table.specs.Bytes.{machine_of}
-use Rattle.table.proofs.Checked.{passed_table, checked_looks}
 use Rattle.printing.specs.Text.{state_lines}
 use Rattle.printing.specs.Cut.{Adds}
-use Rattle.printing.proofs.Adding.{adds_nothing, adds_same, adds_then}
-use Rattle.printing.proofs.Texts.{no_lines, one_more_line}
 use Rattle.printing.proofs.lines.put_states.Given as goal
 
 abbrev pub invariant-loop-state : goal.invariant-loop-state

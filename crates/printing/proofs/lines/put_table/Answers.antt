@@ -1,5 +1,5 @@
 -- `printing::lines::put_table`: a refused table is one line, a checked one its head and its states. Assumes nothing.
-use borrow.Author.Rules.{rules}
+use mathlib.Core.Path.{refl}
 use Rattle.layout.specs.Refusal.{first}
 use Rattle.table.specs.Bytes.{machine_of}
 use Rattle.table.specs.Rows.{table_rows}
@@ -11,17 +11,17 @@ use Rattle.printing.proofs.lines.put_table.Goals as goal
 pub put_states-requires : goal.put_states-requires
 put_states-requires c =
     let b = c.args.bytes.now in
-    let r = c.check_table-checked.ensures in
-    states_passed b (r.refusal, r.states) c.checked-in-States-1.given.1
+    let r = c.in-States.ensures in
+    states_passed b (r.refusal, r.states) refl
 
 pub returns-in-Refused : goal.returns-in-Refused
 returns-in-Refused c =
     let b = c.args.bytes.now in
-    adds_same (refused_text (machine_of b) (first (table_rows b)) _ _ (checked_refused b c.check_table-checked.ensures c.checked-1.given.1)) c.put_refusal.ensures
+    adds_same (refused_text (machine_of b) (first (table_rows b)) _ _ (checked_refused b c.in-Refused.ensures refl)) c.put_refusal.ensures
 
 pub returns-in-States : goal.returns-in-States
 returns-in-States c =
     let b = c.args.bytes.now in
-    let r = c.check_table-checked.ensures in
-    let (passes, counted) = states_passed b (r.refusal, r.states) c.checked-in-States-1.given.1 in
+    let r = c.in-States.ensures in
+    let (passes, counted) = states_passed b (r.refusal, r.states) refl in
     adds_same (passed_text (machine_of b) (first (table_rows b)) _ passes counted) (adds_then c.put_head-states.ensures c.put_states.ensures)

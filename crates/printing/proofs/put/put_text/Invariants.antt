@@ -1,10 +1,8 @@
 -- `printing::put::put_text`: after i turns the first i bytes of the text are added. Assumes nothing.
 use mathlib.Core.Path.{◌≡◌}
 use Prim.Native.Nat.{◌≤◌, ◌-◌}
-use borrow.Author.Rules.{rules}
 use lib.ListN.{length, take}
 use Rattle.printing.specs.Cut.{Adds}
-use Rattle.printing.proofs.Adding.{adds_nothing, adds_next, adds_whole}
 use Rattle.printing.proofs.put.put_text.Given as goal
 
 abbrev pub invariant-loop-i : goal.invariant-loop-i
