@@ -10,7 +10,7 @@ use lib.Seq.{drop_at}
 use Rattle.layout.specs.Refusal.{Tested, passed, refused, first}
 use Rattle.layout.proofs.Rows.{refused_before}
 use Rattle.patterns.specs.Outcome.{outcome}
-use Rattle.machines.specs.Machine.{Machine, walk}
+use Rattle.machines.specs.Machine.{walk}
 use Rattle.meaning.specs.Longest.{longest}
 use Rattle.meaning.specs.Window.{recent}
 use Rattle.meaning.specs.Sets.{SetAllowed, KeptBy}

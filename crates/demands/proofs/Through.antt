@@ -1,5 +1,5 @@
 -- A guard through changes of the battery, on the table built from the set that its record carries: a change gives back the guard that was written, field for field, so a run with changes leaves the guard that the same tells without them leave. The same from any guard that outcomes led where it stands. By induction on the events. Assumes nothing.
-use mathlib.Core.Path.{◌≡◌, refl, sym, ap, ap₂, subst, ◌∙◌}
+use mathlib.Core.Path.{◌≡◌, refl, sym, ap, ap₂, subst}
 use mathlib.Core.List.{List, [], ◌∷◌, ◌++◌}
 use Prim.Native.Nat.{ℕ, suc, ◌≤◌}
 use native.Mathlib.Omega.{arith}

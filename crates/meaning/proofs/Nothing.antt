@@ -13,7 +13,7 @@ use lib.ListN.{length, replicate, length-replicate, replicate-append-replicate}
 use Rattle.meaning.specs.declared.LimitSet.{LimitSet}
 use Rattle.meaning.specs.Limit.{Rule, any_hit, row_hit, any_miss, row_miss, width, rule_from}
 use Rattle.meaning.specs.Window.{around, window}
-use Rattle.meaning.specs.Holds.{hits, misses, Run, Holds}
+use Rattle.meaning.specs.Holds.{hits, Run, Holds}
 use Rattle.meaning.specs.Kept.{Kept}
 use Rattle.meaning.specs.Sets.{SetAllowed, KeptBy, LimitsNothing, Panic, rule_at}
 use Rattle.meaning.specs.Test.{idle, all_idle}

@@ -3,19 +3,14 @@ use mathlib.Core.Path.{◌≡◌, refl, sym, ◌∙◌, subst}
 use mathlib.Core.Logic.{◌↔◌}
 use mathlib.Core.Bool.{Bool, true, false}
 use mathlib.Core.List.{List, [], ◌∷◌, ◌++◌, append_assoc, append-nil}
-use Prim.Native.Nat.{ℕ, zero, suc, ◌+◌, ◌<◌}
+use Prim.Native.Nat.{ℕ, zero, suc, ◌<◌}
 use native.Mathlib.Omega.{arith}
 use lib.Dec.{T}
-use lib.ListN.{length}
-use lib.IntN.{ℤ, pos, ◌-ℤ◌}
 use Rattle.meaning.specs.declared.LimitSet.{LimitSet}
-use Rattle.meaning.specs.Limit.{Rule, width}
-use Rattle.meaning.specs.Window.{around, window}
-use Rattle.meaning.specs.Holds.{Holds}
 use Rattle.meaning.specs.Kept.{Kept}
 use Rattle.meaning.specs.Sets.{KeptBy, rule_at}
-use Rattle.meaning.specs.Test.{every, window_test, kept_test, kept_by_test}
-use Rattle.meaning.proofs.Decide.{and_T, T_of, holds_iff, kept_iff, every_at, every_from}
+use Rattle.meaning.specs.Test.{every, kept_test, kept_by_test}
+use Rattle.meaning.proofs.Decide.{and_T, T_of, kept_iff, every_at, every_from}
 use Rattle.meaning.proofs.SetLaws.{kept_by_hit}
 
 -- a test that fails somewhere below n fails at a least number

@@ -1,6 +1,5 @@
 -- `floelinnet::floe_guard_ask`: the record holds what `flat::asked` makes of the answer, and the guard that was handed in, field by field. Assumes nothing.
 use mathlib.Core.Path.{sym, ap₂}
-use borrow.Author.Rules.{rules}
 use Rattle.flat.specs.declared.FloeAsked.{FloeAsked}
 use Rattle.floelinnet.proofs.floe_guard_ask.Goals as goal
 

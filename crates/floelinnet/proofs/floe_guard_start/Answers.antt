@@ -1,6 +1,5 @@
 -- `floelinnet::floe_guard_start`: the record holds what `flat::started` makes of the answer, and the guard. Assumes nothing.
 use mathlib.Core.Path.{ap}
-use borrow.Author.Rules.{rules}
 use Rattle.flat.specs.declared.FloeStarted.{FloeStarted}
 use Rattle.floelinnet.proofs.floe_guard_start.Goals as goal
 

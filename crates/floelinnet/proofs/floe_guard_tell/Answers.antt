@@ -1,6 +1,5 @@
 -- `floelinnet::floe_guard_tell`: the record holds what `flat::told` makes of the answer, and the guard. Assumes nothing.
 use mathlib.Core.Path.{ap}
-use borrow.Author.Rules.{rules}
 use Rattle.flat.specs.declared.FloeTold.{FloeTold}
 use Rattle.floelinnet.proofs.floe_guard_tell.Goals as goal
 

@@ -1,6 +1,5 @@
 -- `floelinnet::carries::floe_carry_read`: the record holds what `flat::started` makes of the answer, and the guard. Assumes nothing.
 use mathlib.Core.Path.{ap}
-use borrow.Author.Rules.{rules}
 use Rattle.flat.specs.declared.FloeStarted.{FloeStarted}
 use Rattle.floelinnet.proofs.carries.floe_carry_read.Goals as goal
 
