@@ -122,7 +122,7 @@ after_two_hits_canonical =
     canonical_for_its_walks m (checked_well_made after_two_hits refl) after_two_hits_numbered
     (test_differ m (λ a. replicate a true ++ false ∷ []) tt)
 
--- the states of `after-two-hits`, by the two newest outcomes
+-- the states of `after_two_hits`, by the two newest outcomes
 abbrev newest_miss : ℕ → ℕ
 newest_miss h = get_or (1 ∷ 2 ∷ 1 ∷ 0 ∷ []) (h % 4) 0
 

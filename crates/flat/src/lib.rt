@@ -1,4 +1,4 @@
-// Each answer of the library as a flat record, for C and Rust: what the exported functions of `floelinnet` return.
+// Each answer of the library as a flat record, for C and Rust: what the functions of `floelinnet` return, which C calls through `floelinnet_c`.
 // Every record begins with the number of the refusal, 0 for none, and what the rules return beside it.
 #![tactic(auto)]
 
