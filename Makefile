@@ -52,7 +52,7 @@ limits-named:
 $(ARCHIVE):
 	@$(call copied,floelinnet_c,rt lib --cpu x86-64,target/staticlib.log,libfloelinnet_c.a,$@)
 $(PROGRAM):
-	@$(call copied,print_table,rt run < /dev/null,target/print_table.log,print_table,$@)
+	@$(call copied,print_table,rt run --cpu x86-64 < /dev/null,target/print_table.log,print_table,$@)
 
 # Everything that must pass. rt ci comes first: it proves every crate, tries the must-fail edits and runs the programs. It
 # passes even where edits are bad, which says that they were not tried: here there may be none. The tests from outside then

@@ -2,7 +2,8 @@
 // digits in capitals, outcomes as one digit each, nothing at all as `-`. A wrong character counts as 0.
 // What a field holds beyond the lent buffer is cut off, and so is half a byte at its end.
 // Fields are numbered from 0 and parted by one space each; one that the line hasn't is empty.
-ghost use Rattle.std.specs.Prelude.{◌≡◌, ◌≤◌, ◌<◌, length, take};
+ghost use Rattle.std.specs.Prelude.{◌≤◌, ◌<◌, length};
+ghost use Rattle.io.specs.Counts.{IsPrefixLen};
 
 // The place of the first such byte from a place on, or the text's length where there is none.
 pub(crate) fn find(text: &[u8], byte: u8, from: usize) -> usize
@@ -57,8 +58,7 @@ fn pair(high: u8, low: u8) -> u8 {
 
 // Puts the bytes of a field at the start of `out`, and says how many there are.
 pub(crate) fn bytes(field: &[u8], out: &mut [u8]) -> usize
-    ensures within { result ≤ length out.new }
-    ensures prefix { result ≡ length (take result out.new) }
+    ensures { IsPrefixLen result out.new }
 {
     let mut at = 0;
     let mut n = 0;
@@ -75,8 +75,7 @@ pub(crate) fn bytes(field: &[u8], out: &mut [u8]) -> usize
 
 // Puts the outcomes of a field at the start of `out`, and says how many there are.
 pub(crate) fn outcomes(field: &[u8], out: &mut [u8]) -> usize
-    ensures within { result ≤ length out.new }
-    ensures prefix { result ≡ length (take result out.new) }
+    ensures { IsPrefixLen result out.new }
 {
     let end = find(field, b'-', 0);
     let mut n = 0;

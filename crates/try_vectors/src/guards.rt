@@ -2,7 +2,6 @@
 // A guard by hand is four fields of a line, from field 2 on: its state, 1 if it is lost, its outcomes, its count.
 use crate::{actions, fields, tables};
 use guard::{Guard, HELD};
-use std::io;
 
 fn is_one(field: &[u8], at: usize) -> bool {
     if field.len() <= at {
@@ -32,22 +31,22 @@ pub(crate) fn by_hand(line: &[u8]) -> Guard {
     }
 }
 
-pub(crate) fn try_new(rt: &impl Print, line: &[u8]) -> io::Result<()> {
+pub(crate) fn try_new(rt: &impl Print, line: &[u8]) {
     actions::drive_on(
         rt,
         Guard::new(),
         b"",
         fields::field(line, 1),
         fields::field(line, 2),
-    )
+    );
 }
 
-pub(crate) fn try_by_hand(rt: &impl Print, line: &[u8]) -> io::Result<()> {
+pub(crate) fn try_by_hand(rt: &impl Print, line: &[u8]) {
     actions::drive_on(
         rt,
         by_hand(line),
         b"",
         fields::field(line, 1),
         fields::field(line, 6),
-    )
+    );
 }

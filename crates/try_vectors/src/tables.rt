@@ -1,9 +1,9 @@
 // The table that a vector's field gives, and the check of it.
 // A field holds a table's bytes or, since a line is too short for the largest, `z` and n in four digits: n states that all lead to state 0.
-ghost use Rattle.std.specs.Prelude.{◌≡◌, ◌≤◌, length, take};
+ghost use Rattle.std.specs.Prelude.{◌≡◌, length};
+ghost use Rattle.io.specs.Counts.{IsPrefixLen};
 
 use crate::{answers, fields};
-use std::io;
 
 // Zeros, as many as a table has bytes that has a state more than is allowed.
 pub(crate) fn zeros() -> [u8; 131083]
@@ -22,8 +22,7 @@ pub(crate) fn number_of(field: &[u8]) -> u16 {
 
 // The beginning of a table of n states; its entries are the zeros that are there.
 fn put_alike(n: u16, out: &mut [u8]) -> usize
-    ensures within { result ≤ length out.new }
-    ensures prefix { result ≡ length (take result out.new) }
+    ensures { IsPrefixLen result out.new }
 {
     let rest = 3 + 4 * (n as usize);
     if out.len() < 4 + rest {
@@ -40,8 +39,7 @@ fn put_alike(n: u16, out: &mut [u8]) -> usize
 
 // Puts the table at the start of `out`, which holds zeros, and says how many bytes it has.
 pub(crate) fn put(field: &[u8], out: &mut [u8]) -> usize
-    ensures within { result ≤ length out.new }
-    ensures prefix { result ≡ length (take result out.new) }
+    ensures { IsPrefixLen result out.new }
 {
     if field.len() == 0 {
         return 0;
@@ -52,8 +50,8 @@ pub(crate) fn put(field: &[u8], out: &mut [u8]) -> usize
     put_alike(number_of(&field[1..]), out)
 }
 
-pub(crate) fn try_check(rt: &impl Print, line: &[u8]) -> io::Result<()> {
+pub(crate) fn try_check(rt: &impl Print, line: &[u8]) {
     let mut space = zeros();
     let n = put(fields::field(line, 1), &mut space);
-    answers::print_checked(rt, table::check_table(&space[..n]))
+    answers::print_checked(rt, table::check_table(&space[..n]));
 }

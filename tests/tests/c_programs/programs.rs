@@ -28,7 +28,8 @@ pub fn made(name: &str) -> PathBuf {
     Path::new(env!("CARGO_TARGET_TMPDIR")).join(name)
 }
 
-/// The archive that `make dist` copies from where `rt lib` leaves it, or the one in the folder that FLOELINNET_ARCHIVE_DIR names.
+/// The archive that `make dist` copies from where `rt lib` leaves it, or the one in the folder that
+/// FLOELINNET_ARCHIVE_DIR names.
 pub fn archive() -> PathBuf {
     let folder = env::var_os("FLOELINNET_ARCHIVE_DIR").unwrap_or_else(|| "../target/staticlib".into());
     Path::new(env!("CARGO_MANIFEST_DIR")).join(folder).join("libfloelinnet.a")
