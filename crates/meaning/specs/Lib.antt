@@ -1,5 +1,6 @@
 pub mod Longest
 pub mod Limit
+pub mod KindOf
 pub mod Window
 pub mod Holds
 pub mod Kept
