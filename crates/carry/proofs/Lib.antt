@@ -1,6 +1,5 @@
 pub mod Parts
 pub mod Accepted
-pub mod Turns
 pub mod Walking
 pub mod Reading
 pub mod Writing

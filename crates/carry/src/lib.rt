@@ -80,11 +80,9 @@ fn told(guard: Guard, table: &[u8], outcomes: &[u8]) -> Guard
     ensures { result ≡ told_all table.now guard outcomes.now }
 {
     let mut walked = guard;
-    let mut i = 0;
-    while i < outcomes.len() {
-        let after = walked.tell(table, outcomes[i]);
+    for byte in outcomes {
+        let after = walked.tell(table, *byte);
         walked = after.guard;
-        i += 1;
     }
     walked
 }

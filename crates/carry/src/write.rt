@@ -24,11 +24,7 @@ fn put_set(set: &[u8], out: &mut [u8])
 {
     layout::put_four(out, 0, 1 + set.len() + TAIL);
     out[4] = VERSION;
-    let mut i = 0;
-    while i < set.len() {
-        out[5 + i] = set[i];
-        i += 1;
-    }
+    out[5..5 + set.len()].copy_from_slice(set);
 }
 
 // The outcomes, one byte each.
@@ -36,10 +32,8 @@ fn put_outcomes(out: &mut [u8], at: usize, outcomes: [bool; HELD])
     requires { at + carried ≤ length out.old }
     ensures { out.new ≡ take at out.old ++ map bit outcomes ++ drop (at + carried) out.old }
 {
-    let mut i = 0;
-    while i < HELD {
-        out[at + i] = outcomes[i] as u8;
-        i += 1;
+    for (i, hit) in outcomes.iter().enumerate() {
+        out[at + i] = *hit as u8;
     }
 }
 
