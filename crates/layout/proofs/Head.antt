@@ -1,36 +1,29 @@
--- What the head of a layout says, case by case, what it holds where both its rows are passed, and what a fault that was found as a number decides. Assumes nothing.
-use mathlib.Core.Path.{◌≡◌, refl, sym, ap, ◌∙◌}
-use mathlib.Core.List.{List, ◌++◌}
-use Prim.Native.Nat.{ℕ, zero, suc, ◌-◌, ◌≤◌, ◌<◌}
+-- What the head of a layout says, case by case, what it holds where both its rows are passed, and that a test of it has one result. Assumes nothing.
+use mathlib.Core.Path.{◌≡◌, refl, sym}
+use mathlib.Core.List.{List}
+use Prim.Native.Nat.{ℕ, ◌-◌, ◌≤◌, ◌<◌}
 use native.Mathlib.Omega.{arith}
 use borrow.Author.Tests.{le-ltb, lt-ltb, eq-eqb, ne_eqb, ltb-false, eqb-true, not-false}
 use lib.ListN.{length}
 use Rattle.layout.specs.Bytes.{length_field, version}
-use Rattle.layout.specs.Refusal.{Row, passed, refused, first}
-use Rattle.layout.specs.Head.{head_rows, fault_row}
-use Rattle.layout.proofs.Rows.{passed_not_refused, passed_first, refused_before, passed_before, or_none}
+use Rattle.layout.specs.Refusal.{passed, refused, first}
+use Rattle.std.specs.Prelude.{⊤, Result, Ok, Err}
+use Rattle.layout.specs.declared.HeadFault.{HeadFault}
+use Rattle.layout.specs.declared.HeadFault.TheVariants.{Length, Version}
+use Rattle.layout.specs.Head.{head_rows, head_says}
+use Rattle.layout.proofs.Rows.{passed_not_refused, passed_first, or_none}
 
--- a number that isn't 0 is a refusal, and 0 is none
-pub some_fault : (n at : ℕ) → 1 ≤ n → fault_row n at ≡ refused n at
-some_fault zero at h = absurd (omega arith)
-some_fault (suc n) at h = refl
-
-pub no_fault : (n at : ℕ) → n ≡ 0 → fault_row n at ≡ passed
-no_fault n at e = ap (λ z. fault_row z at) e
-
-pub head_fault_one_result : (n m : ℕ) → fault_row n 0 ≡ fault_row m 0 → n ≡ m
-head_fault_one_result zero zero e = refl
-head_fault_one_result zero (suc m) e = absurd (passed_not_refused e)
-head_fault_one_result (suc n) zero e = absurd (passed_not_refused (sym e))
-head_fault_one_result (suc n) (suc m) e = cc
-
--- rows whose fault was found as a number, and rows that come after them
-module _ (a b : List Row) (n at : ℕ) (e : first a ≡ fault_row n at) where
-  pub fault_before : (n ≡ 0 → ⊥) → first (a ++ b) ≡ refused n at
-  fault_before h = refused_before a b (e ∙ some_fault n at (omega arith))
-
-  pub no_fault_before : n ≡ 0 → first (a ++ b) ≡ first b
-  no_fault_before h = passed_before a b (e ∙ no_fault n at h)
+-- a result that says the same for two numbers that differ is that result
+pub check_head_one_result : (r r' : Result ⊤ HeadFault) → ((wrong other : ℕ) → head_says wrong other r ≡ head_says wrong other r') → r ≡ r'
+check_head_one_result (Ok x) (Ok y) e = refl
+check_head_one_result (Ok x) (Err Length) e = absurd (passed_not_refused (e 1 2))
+check_head_one_result (Ok x) (Err Version) e = absurd (passed_not_refused (e 1 2))
+check_head_one_result (Err Length) (Ok x) e = absurd (passed_not_refused (sym (e 1 2)))
+check_head_one_result (Err Version) (Ok x) e = absurd (passed_not_refused (sym (e 1 2)))
+check_head_one_result (Err Length) (Err Length) e = refl
+check_head_one_result (Err Version) (Err Version) e = refl
+check_head_one_result (Err Length) (Err Version) e = let q = e 1 2 in let z : ◌≡◌ {A = ℕ} 1 2 = cc in absurd (omega arith)
+check_head_one_result (Err Version) (Err Length) e = let q = e 1 2 in let z : ◌≡◌ {A = ℕ} 2 1 = cc in absurd (omega arith)
 
 module _ (least own wrong other : ℕ) (b : List ℕ) where
   pub head_short : length b < least → first (head_rows least own wrong other b) ≡ refused wrong 0

@@ -1,5 +1,7 @@
 -- RULES, Refusals, 1 and 2 of a set, 10 and 11 of a table, 15 of a log, 18 of a record: it "has under" so many bytes, "or its length field isn't how many bytes follow it"; then its version isn't the one asked for.
-use Rattle.std.specs.Prelude.{not, ◌||◌, List, [], ◌∷◌, ℕ, zero, suc, ◌-◌, eqb, ltb, length}
+use Rattle.std.specs.Prelude.{not, ◌||◌, List, [], ◌∷◌, ℕ, ◌-◌, eqb, ltb, length, ⊤, Result, Ok, Err}
+use Rattle.layout.specs.declared.HeadFault.{HeadFault}
+use Rattle.layout.specs.declared.HeadFault.TheVariants.{Length, Version}
 use Rattle.layout.specs.Bytes.{length_field, version}
 use Rattle.layout.specs.Refusal.{Row, row, Tested, passed, refused}
 
@@ -10,7 +12,8 @@ head_rows least own wrong other b =
     ∷ row other (not (eqb (version b) own)) 0
     ∷ []
 
--- what a number, 0 for none, says with a value beside it
-abbrev pub fault_row : (number at : ℕ) → Tested
-fault_row zero at = passed
-fault_row (suc n) at = refused (suc n) at
+-- what a test of the head finds, where a wrong length and another version have these numbers
+abbrev pub head_says : (wrong other : ℕ) → Result ⊤ HeadFault → Tested
+head_says wrong other (Ok x) = passed
+head_says wrong other (Err Length) = refused wrong 0
+head_says wrong other (Err Version) = refused other 0

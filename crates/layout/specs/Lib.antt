@@ -1,4 +1,5 @@
 pub mod Bytes
 pub mod Refusal
+pub mod Refused
 pub mod Head
 pub mod Write

@@ -1,17 +1,93 @@
-// What every layout has in common: bytes as numbers, the head that opens it, and a writer's answer.
-// specs/ also have what every refusal has in common: rows of a table, of which the first that holds decides.
+// What every layout has in common: bytes as numbers, and the head that opens it; and why an entry refuses.
+// specs/ have the rows of refusals, of which the first that holds decides, the number of each, and what a writer promises.
 #![tactic(auto)]
 
-ghost use Rattle.std.specs.Prelude.{◌≡◌, ◌++◌, ◌+◌, ◌≤◌, ◌<◌, length, take, drop};
+ghost use Rattle.std.specs.Prelude.{◌≡◌, ℕ, ◌++◌, ◌+◌, ◌≤◌, ◌<◌, length, take, drop};
 ghost use Rattle.layout.specs.Bytes.{four_at, length_field, four_bytes, eight_at, eight_bytes};
 ghost use Rattle.layout.specs.Refusal.{first};
-ghost use Rattle.layout.specs.Head.{head_rows, fault_row};
+ghost use Rattle.layout.specs.Refused.{number_of, beside};
+ghost use Rattle.layout.specs.Head.{head_rows, head_says};
 
-// What a writer answers: the length of what it wrote, or a refusal.
-#[derive(Clone, Copy)]
-pub enum WriteAnswer {
-    Written(usize),
-    Refused { number: u8, at: usize },
+// Why an entry refuses, one name for each number of the rules, with the value that stands beside it.
+#[derive(Clone, Copy, Debug, PartialEq, Eq)]
+pub enum Refused {
+    SetLength,
+    SetVersion,
+    LimitCount,
+    LimitsLength,
+    LimitKind { limit: usize },
+    LimitK { limit: usize },
+    LimitX { limit: usize },
+    WorkLength,
+    Room { needed: usize },
+    TableLength,
+    TableVersion,
+    States,
+    Outcome { place: usize },
+    Job,
+    Log,
+    UnusedBits,
+    Count,
+    Record,
+    LostByte,
+    OldRecord,
+    LimitsNothing,
+    Walk,
+    PatternLength,
+}
+
+impl Refused {
+    // The number that the rules give it.
+    pub fn number(self) -> u8
+        ensures { result ≡ number_of self }
+    {
+        match self {
+            Refused::SetLength => 1,
+            Refused::SetVersion => 2,
+            Refused::LimitCount => 3,
+            Refused::LimitsLength => 4,
+            Refused::LimitKind { .. } => 5,
+            Refused::LimitK { .. } => 6,
+            Refused::LimitX { .. } => 7,
+            Refused::WorkLength => 8,
+            Refused::Room { .. } => 9,
+            Refused::TableLength => 10,
+            Refused::TableVersion => 11,
+            Refused::States => 12,
+            Refused::Outcome { .. } => 13,
+            Refused::Job => 14,
+            Refused::Log => 15,
+            Refused::UnusedBits => 16,
+            Refused::Count => 17,
+            Refused::Record => 18,
+            Refused::LostByte => 19,
+            Refused::OldRecord => 20,
+            Refused::LimitsNothing => 21,
+            Refused::Walk => 25,
+            Refused::PatternLength => 26,
+        }
+    }
+
+    // The value beside the number, 0 where there is none.
+    pub fn at(self) -> usize
+        ensures { result ≡ beside self }
+    {
+        match self {
+            Refused::LimitKind { limit } => limit,
+            Refused::LimitK { limit } => limit,
+            Refused::LimitX { limit } => limit,
+            Refused::Room { needed } => needed,
+            Refused::Outcome { place } => place,
+            _ => 0,
+        }
+    }
+}
+
+// What is wrong with the head of a layout: its length, or else its version.
+#[derive(Clone, Copy, Debug, PartialEq, Eq)]
+pub enum HeadFault {
+    Length,
+    Version,
 }
 
 // A byte as a number that can be added to and compared with lengths.
@@ -48,24 +124,23 @@ pub fn length_field(bytes: &[u8]) -> usize
     four_at(bytes, 0)
 }
 
-// Tests the head of a layout that has at least so many bytes and a version of its own: 0, or the number for a wrong
-// length or for another version.
-pub fn head_fault(bytes: &[u8], least: usize, own: u8, wrong: u8, other: u8) -> u8
-    requires { (5 ≤ least) × (1 ≤ wrong) × (1 ≤ other) }
-    ensures { first (head_rows least own wrong other bytes.now) ≡ fault_row result 0 }
+// Tests the head of a layout that has at least so many bytes and a version of its own.
+pub fn check_head(bytes: &[u8], least: usize, own: u8) -> Result<(), HeadFault>
+    requires { 5 ≤ least }
+    ensures { (wrong : ℕ) (other : ℕ) → first (head_rows least own wrong other bytes.now) ≡ head_says wrong other result }
 {
     let n = bytes.len();
     if n < least {
-        return wrong;
+        return Err(HeadFault::Length);
     }
     let rest = length_field(bytes);
     if rest != n - 4 {
-        return wrong;
+        return Err(HeadFault::Length);
     }
     if bytes[4] != own {
-        return other;
+        return Err(HeadFault::Version);
     }
-    0
+    Ok(())
 }
 
 // Writes a number as four bytes, the highest first.

@@ -1,11 +1,10 @@
 -- The test for 13, place by place: a byte that is 0 or 1 hands on to the next, any other is the answer; and one place is told by what it says of a pattern. An outcome and its byte, each from the other. Assumes nothing.
 use mathlib.Core.Path.{◌≡◌, refl, sym, ap, ap₂, ◌∙◌}
-use mathlib.Core.Logic.{◌↔◌, dite}
+use mathlib.Core.Logic.{◌↔◌}
 use mathlib.Core.Bool.{Bool, true, false}
 use mathlib.Core.List.{List, [], ◌∷◌, map}
 use Prim.Native.Nat.{ℕ, zero, suc, ◌+◌, ◌≤◌, ◌<◌}
 use native.Mathlib.Numerals.{add-one}
-use native.Mathlib.Decide.{dec_lt}
 use native.Mathlib.Omega.{arith}
 use mir.Val.{bool_byte}
 use borrow.Author.Tests.{lt-ltb, le-ltb, ltb-false}
@@ -14,6 +13,7 @@ use lib.ListN.{length, get_or, drop, drop_of_length-le}
 use lib.Seq.{drop-cons}
 use Rattle.layout.specs.Refusal.{row, passed, refused, first}
 use Rattle.layout.proofs.Rows.{first_here, first_skip, passed_first, passed_not_refused}
+use Rattle.std.specs.Prelude.{Option, Some, None}
 use Rattle.patterns.specs.Outcome.{outcome, outcomes, bit, AllOutcomes, outcome_rows}
 use Rattle.patterns.specs.Tested.{bad_place}
 use Rattle.patterns.proofs.Numbers.{bit_le}
@@ -78,18 +78,9 @@ unfolding outcome_rows first
 bits_passed [] i = refl
 bits_passed (o ∷ p) i = first_skip 13 i _ (outcome_rows (map bit p) (suc i)) (le-ltb 1 (bit o) (bit_le o)) ∙ bits_passed p (suc i)
 
--- two places that say the same of a pattern, neither past its end, are one
-pub bad_place_one_result : (n r t : ℕ) → r ≤ n → t ≤ n → bad_place r n ≡ bad_place t n → r ≡ t
-bad_place_one_result n r t h l e = dite (dec_lt r n) (λ a. dite (dec_lt t n) (both a) (λ b. absurd (one a b e))) (λ a. dite (dec_lt t n) (λ b. absurd (one b a (sym e))) (λ b. omega arith))
-  where
-    here : (i : ℕ) → i < n → bad_place i n ≡ refused 13 i
-    here i h = rw (lt-ltb i n h)
-
-    past : (i : ℕ) → (i < n → ⊥) → bad_place i n ≡ passed
-    past i h = rw (le-ltb i n (omega arith))
-
-    both : r < n → t < n → r ≡ t
-    both a b = cc (here r a, here t b)
-
-    one : {i j : ℕ} → i < n → (j < n → ⊥) → bad_place i n ≡ bad_place j n → ⊥
-    one {i} {j} a b q = passed_not_refused (sym (past j b) ∙ sym q ∙ here i a)
+-- two answers that say the same of a pattern are one
+pub bad_place_one_result : (r t : Option ℕ) → bad_place r ≡ bad_place t → r ≡ t
+bad_place_one_result None None e = refl
+bad_place_one_result None (Some i) e = absurd (passed_not_refused e)
+bad_place_one_result (Some i) None e = absurd (passed_not_refused (sym e))
+bad_place_one_result (Some i) (Some j) e = cc

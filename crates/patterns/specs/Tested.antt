@@ -1,6 +1,7 @@
--- RULES, Refusals, 13: what a place says of a pattern, 13 with that place, or nothing where it is the pattern's end.
-use Rattle.std.specs.Prelude.{cond, ℕ, ltb}
+-- RULES, Refusals, 13: what the first bad place says of a pattern, 13 with that place, or nothing where there is none.
+use Rattle.std.specs.Prelude.{ℕ, Option, Some, None}
 use Rattle.layout.specs.Refusal.{Tested, passed, refused}
 
-abbrev pub bad_place : (place end : ℕ) → Tested
-bad_place place end = cond (ltb place end) (refused 13 place) passed
+abbrev pub bad_place : Option ℕ → Tested
+bad_place None = passed
+bad_place (Some i) = refused 13 i

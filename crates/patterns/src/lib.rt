@@ -2,21 +2,20 @@
 // specs/ say what a byte's outcome is, which of two patterns comes first and what number a pattern writes.
 #![tactic(auto)]
 
-ghost use Rattle.std.specs.Prelude.{◌≡◌, ◌≤◌, length};
+ghost use Rattle.std.specs.Prelude.{◌≡◌, ◌<◌, length, IfSome};
 ghost use Rattle.layout.specs.Refusal.{first};
 ghost use Rattle.patterns.specs.Outcome.{outcome_rows};
 ghost use Rattle.patterns.specs.Tested.{bad_place};
 
-// The place of the first byte that is neither 0 nor 1, or the pattern's length where there is none.
-pub fn first_bad(pattern: &[u8]) -> usize
-    ensures { (result ≤ length pattern.now) × (first (outcome_rows pattern.now 0) ≡ bad_place result (length pattern.now)) }
+// The place of the first byte that is neither 0 nor 1, if there is one.
+pub fn first_bad(pattern: &[u8]) -> Option<usize>
+    ensures tested { first (outcome_rows pattern.now 0) ≡ bad_place result }
+    ensures below { IfSome result (λ i. i < length pattern.now) }
 {
-    let mut i = 0;
-    while i < pattern.len() {
-        if 1 < pattern[i] {
-            return i;
+    for (i, byte) in pattern.iter().enumerate() {
+        if 1 < *byte {
+            return Some(i);
         }
-        i += 1;
     }
-    i
+    None
 }

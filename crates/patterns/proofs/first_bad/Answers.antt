@@ -1,28 +1,14 @@
--- `patterns::first_bad`: what the test says of all bytes it says of those from i on. Assumes nothing.
-use mathlib.Core.Path.{sym, ◌∙◌}
-use Prim.Native.Nat.{◌≤◌}
+-- `patterns::first_bad` meets its contract: a good byte hands on to the next, a bad one decides, and so does the end. Assumes nothing.
+use mathlib.Core.Path.{◌∙◌}
 use native.Mathlib.Omega.{arith}
-use borrow.Author.Tests.{lt-ltb, le-ltb}
-use lib.ListN.{length}
 use Rattle.patterns.proofs.Outcomes.{outcome_good, outcome_bad, outcome_end}
 use Rattle.patterns.proofs.first_bad.Goals as goal
 
-pub returns-then-pattern-i-gt1 : goal.returns-then-pattern-i-gt1
-returns-then-pattern-i-gt1 c =
-    let l = c.loop-i in
-    let b = c.args.pattern.now in
-    let h = c.loop-i-test.true in
-    (omega arith, l.invariant.1 ∙ outcome_bad b l.i h c.if-pattern-i-gt1.true ∙ sym (simp (lt-ltb l.i (length b) h)))
+pub returns-then-byte-gt1-clause-tested : goal.returns-then-byte-gt1-clause-tested
+returns-then-byte-gt1-clause-tested c = let l = c.loop-i in l.invariant ∙ outcome_bad c.args.pattern.now l.i (omega arith) c.if-byte-gt1.true
 
 pub loop-i-preserved : goal.loop-i-preserved
-loop-i-preserved c =
-    let l = c.loop-i in
-    let b = c.args.pattern.now in
-    (omega arith, l.invariant.1 ∙ outcome_good b l.i c.loop-i-test.true c.if-pattern-i-gt1.false)
+loop-i-preserved c = let l = c.loop-i in l.invariant ∙ outcome_good c.args.pattern.now l.i (omega arith) (omega arith)
 
-pub returns : goal.returns
-returns c =
-    let l = c.loop-i in
-    let b = c.args.pattern.now in
-    let h : length b ≤ l.i = omega arith in
-    (omega arith, l.invariant.1 ∙ outcome_end b l.i h ∙ sym (simp (le-ltb l.i (length b) h)))
+pub returns-clause-tested : goal.returns-clause-tested
+returns-clause-tested c = let l = c.loop-i in l.invariant ∙ outcome_end c.args.pattern.now l.i (omega arith)
