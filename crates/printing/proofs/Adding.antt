@@ -1,14 +1,16 @@
--- Adding at a place of a buffer: one byte that fits or is cut off, one piece after another, and from the start. Assumes nothing.
-use mathlib.Core.Path.{◌≡◌, sym, ap, ap₂, ◌∙◌, subst}
+-- Adding at a place of a buffer: nothing, one piece after another, a text byte by byte, and from the start. Assumes nothing.
+use mathlib.Core.Path.{◌≡◌, refl, sym, ap, ap₂, ◌∙◌, subst}
 use mathlib.Core.Logic.{dite}
 use mathlib.Core.List.{List, [], ◌∷◌, ◌++◌, append_assoc, append-nil}
-use Prim.Native.Nat.{ℕ, suc, ◌+◌, ◌-◌, ◌≤◌, ◌<◌}
+use Prim.Native.Nat.{ℕ, ◌+◌, ◌-◌, ◌≤◌, ◌<◌}
 use native.Mathlib.Decide.{dec_le}
 use native.Mathlib.Numerals.{add-one}
 use native.Mathlib.Omega.{arith}
-use lib.ListN.{length, get_or, take, drop, set, length-append, length-take, length-drop, take-append-drop, drop_of_length-le}
-use lib.Seq.{take_all, take-append-le, take-append-add, take-nil, take-suc, take-length, take_at, drop-append-add, drop-drop, set_split}
+use lib.ListN.{length, get_or, take, drop, length-append, length-take, length-drop, take-append-drop, drop_of_length-le}
+use lib.Seq.{take_all, take-append-le, take-append-add, take-nil, take-suc, take_at, drop-append-add, drop-drop}
+use Rattle.printing.specs.declared.put.Text.{Text}
 use Rattle.printing.specs.Cut.{Holds, Adds}
+use Rattle.printing.specs.Put.{Puts}
 
 -- the buffer with more in it
 abbrev with : (more out : List ℕ) → (at : ℕ) → List ℕ
@@ -66,29 +68,23 @@ module _ {a b o₁ o₂ o₃ : List ℕ} {p₁ p₂ p₃ : ℕ} (f : Adds a o₁
 pub adds_same : {a b o o' : List ℕ} {p p' : ℕ} → a ≡ b → Adds a o p o' p' → Adds b o p o' p'
 adds_same {a} {b} {o} {o'} {p} {p'} e f = subst (λ z. Adds z o p o' p') e f
 
--- a buffer that nothing was put into
-pub adds_from_start : (text out out' : List ℕ) (r : ℕ) → Adds text out 0 out' r → Holds text out out' r
-adds_from_start text out out' r f =
+-- one piece put after another, and one byte more of a text
+pub puts_same : {a b : List ℕ} {t t' : Text} → a ≡ b → Puts a t t' → Puts b t t'
+puts_same e f = record { buffer = f.buffer; added = adds_same e f.added }
+
+pub puts_nothing : (t : Text) → Puts [] t t
+puts_nothing t = record { buffer = refl; added = adds_nothing t.out.now t.at }
+
+pub puts_then : {a b : List ℕ} {t u v : Text} → Puts a t u → Puts b u v → Puts (a ++ b) t v
+puts_then f g = record { buffer = g.buffer ∙ f.buffer; added = adds_then f.added g.added }
+
+pub puts_next : {t u v : Text} (text : List ℕ) (i : ℕ) → i < length text → Puts (take i text) t u → Puts (get_or text i 0 ∷ []) u v → Puts (take (i + 1) text) t v
+puts_next text i h f g = puts_same (sym (ap (λ k. take k text) (add-one i) ∙ take-suc text i 0 h)) (puts_then f g)
+
+-- a text put into a buffer that nothing was put into before
+pub holds_text : (text out : List ℕ) (t t' : Text) → t.out.now ≡ out → t.at ≡ 0 → Puts text t t' → Holds text out t'.out.now t'.at
+holds_text text out t t' same start f =
     let e : length out - 0 ≡ length out = omega arith in
     let k : 0 + length text ≡ length text = omega arith in
-    record { place = omega (arith, f.place); bytes = f.bytes ∙ ap₂ (λ n m. take n text ++ drop m out) e k }
-
-module _ (byte : ℕ) (out : List ℕ) (at : ℕ) where
-  pub byte_fits : at < length out → Adds (byte ∷ []) out at (set out at byte) (at + 1)
-  byte_fits h =
-      let k : suc at ≡ at + length (byte ∷ []) = omega arith in
-      record {
-        place = omega arith;
-        bytes = set_split out at byte h ∙ ap₂ (λ a n. take at out ++ (a ++ drop n out)) (sym (take_all (length out - at) (byte ∷ []) (omega arith))) k;
-      }
-
-  pub byte_cut_off : length out ≤ at → Adds (byte ∷ []) out at out at
-  byte_cut_off h = record { place = omega arith; bytes = sym (nothing_fits (byte ∷ []) out at h) }
-
--- a text that is added byte by byte
-module _ (text out : List ℕ) (at : ℕ) where
-  pub adds_next : {o o' : List ℕ} {p p' : ℕ} (i : ℕ) → i < length text → Adds (take i text) out at o p → Adds (get_or text i 0 ∷ []) o p o' p' → Adds (take (i + 1) text) out at o' p'
-  adds_next i h f g = adds_same (sym (ap (λ k. take k text) (add-one i) ∙ take-suc text i 0 h)) (adds_then f g)
-
-  pub adds_whole : {o : List ℕ} {p : ℕ} (i : ℕ) → i ≡ length text → Adds (take i text) out at o p → Adds text out at o p
-  adds_whole i h f = adds_same (ap (λ k. take k text) h ∙ take-length text) f
+    let g : Adds text out 0 t'.out.now t'.at = subst (λ z. Adds text z 0 t'.out.now t'.at) same (subst (λ z. Adds text t.out.now z t'.out.now t'.at) start f.added) in
+    record { place = omega (arith, g.place); bytes = g.bytes ∙ ap₂ (λ n m. take n text ++ drop m out) e k }

@@ -6,14 +6,14 @@ use Prim.Native.Nat.{ℕ, zero, suc, ◌+◌, ◌<◌}
 use native.Mathlib.Nat.{add-zero}
 use native.Mathlib.Numerals.{add-one}
 use native.Mathlib.Omega.{arith}
-use Rattle.layout.specs.Refusal.{Tested, passed, refused}
+use Rattle.layout.specs.Refusal.{Tested, passed}
 use Rattle.machines.specs.Machine.{Machine}
 use Rattle.machines.specs.Canonical.{OneTable}
 use Rattle.table.specs.declared.Moves as moves
 use Rattle.table.specs.Bytes.{machine_of}
 use Rattle.table.specs.Check.{moves_of, move_by}
 use Rattle.table.proofs.Answers.{moves_are_next}
-use Rattle.printing.specs.Text.{line_of, state_line, state_lines, head_line, table_text, refusal_text, text_when}
+use Rattle.printing.specs.Text.{line_of, state_line, state_lines, head_line, table_text, text_when}
 
 module _ (m : Machine) where
   lines_snoc : (s n : ℕ) → state_lines m s (suc n) ≡ state_lines m s n ++ state_line m (s + n)
@@ -32,9 +32,6 @@ module _ (m : Machine) where
   one_more_line n =
       let e : 0 + n ≡ n = omega arith in
       sym (ap (state_lines m 0) (add-one n) ∙ lines_snoc 0 n ∙ ap (λ k. state_lines m 0 n ++ state_line m k) e)
-
-  pub refused_text : (t : Tested) (number at : ℕ) → t ≡ refused number at → refusal_text number at ≡ text_when t m
-  refused_text t number at e = sym (ap (λ z. text_when z m) e)
 
   pub passed_text : (t : Tested) (n : ℕ) → t ≡ passed → n ≡ m.states → head_line n ++ state_lines m 0 n ≡ text_when t m
   passed_text t n e l = ap (λ k. head_line k ++ state_lines m 0 k) l ∙ sym (ap (λ z. text_when z m) e)

@@ -1,4 +1,5 @@
 pub mod Text
 pub mod Cut
+pub mod Put
 pub mod Longest
 pub mod Print

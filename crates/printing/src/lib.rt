@@ -11,6 +11,7 @@ ghost use Rattle.printing.specs.Longest.{printed_longest};
 ghost use Rattle.printing.specs.Print.{PrintedAs, Lent, PrintedWhole};
 
 use builder::BuildAnswer;
+use put::Text;
 
 // The most bytes of an input that are looked at.
 const MOST_BYTES: usize = 64;
@@ -26,14 +27,16 @@ pub const LONGEST_TEXT: usize = 12 + 15 * (1 << (LONGEST_WINDOW - 1));
 pub fn print_set(input: &[u8], work: &mut [u16], table: &mut [u8], out: &mut [u8]) -> usize
     ensures { PrintedAs printed_longest input.now work.old work.new table.old table.new out.old out.new result }
 {
+    let mut text = Text::start(out);
     if MOST_BYTES < input.len() {
-        return lines::put_refusal(1, 0, out, 0);
+        text.put_refusal(1, 0);
+        return text.length();
     }
-    let answer = builder::build_within(input, LONGEST_WINDOW, work, table);
-    match answer {
-        BuildAnswer::Refused { number, at } => lines::put_refusal(number, at, out, 0),
-        BuildAnswer::Built(size) => lines::put_table(&table[..size], out, 0),
+    match builder::build_within(input, LONGEST_WINDOW, work, table) {
+        BuildAnswer::Refused { number, at } => text.put_refusal(number, at),
+        BuildAnswer::Built(size) => text.put_table(&table[..size]),
     }
+    text.length()
 }
 
 // The same for the program, which reads `size` bytes, at most 65, and lends enough of everything: no text is cut, and

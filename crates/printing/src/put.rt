@@ -1,35 +1,53 @@
 // Text put into a lent buffer, one piece after another; what goes past the buffer's end is cut off.
-// Each call is told where its piece goes, and says where the next one does.
 ghost use Rattle.printing.specs.Text.{decimal};
-ghost use Rattle.printing.specs.Cut.{Adds};
-ghost use Rattle.std.specs.Prelude.{[], ◌∷◌};
+ghost use Rattle.printing.specs.Put.{Puts};
+ghost use Rattle.std.specs.Prelude.{◌≡◌, [], ◌∷◌};
 
-fn put_byte(byte: u8, out: &mut [u8], at: usize) -> usize
-    ensures { Adds (byte ∷ []) out.old at out.new result }
-{
-    if at < out.len() {
-        out[at] = byte;
-        return at + 1;
-    }
-    at
+// A lent buffer, and the place in it where the next piece goes.
+#[derive(Drop)]
+pub struct Text<'a> {
+    out: &'a mut [u8],
+    at: usize,
 }
 
-pub fn put_text(text: &[u8], out: &mut [u8], at: usize) -> usize
-    ensures { Adds text.now out.old at out.new result }
-{
-    let mut place = at;
-    let mut i = 0;
-    while i < text.len() {
-        place = put_byte(text[i], out, place);
-        i += 1;
+impl<'a> Text<'a> {
+    pub fn start(out: &'a mut [u8]) -> Text<'a>
+        ensures same_reference { result.out.ghost_name ≡ out.entry.ghost_name }
+        ensures unchanged { result.out.now ≡ out.old }
+        ensures place { result.at ≡ 0 }
+    {
+        Text { out, at: 0 }
     }
-    place
-}
 
-pub fn put_number(n: usize, out: &mut [u8], at: usize) -> usize
-    ensures { Adds (decimal n) out.old at out.new result }
-{
-    let mut digits = [0u8; 20];
-    let count = io::decimal(n as u64, &mut digits);
-    put_text(&digits[..count], out, at)
+    // How many bytes of the text are there.
+    pub fn length(&self) -> usize
+        ensures { result ≡ self.now.at }
+    {
+        self.at
+    }
+
+    fn put_byte(&mut self, byte: u8)
+        ensures { Puts (byte ∷ []) self.old self.new }
+    {
+        if self.at < self.out.len() {
+            self.out[self.at] = byte;
+            self.at += 1;
+        }
+    }
+
+    pub fn put_text(&mut self, text: &[u8])
+        ensures { Puts text.now self.old self.new }
+    {
+        for &byte in text {
+            self.put_byte(byte);
+        }
+    }
+
+    pub fn put_number(&mut self, n: usize)
+        ensures { Puts (decimal n) self.old self.new }
+    {
+        let mut digits = [0u8; 20];
+        let count = io::decimal(n as u64, &mut digits);
+        self.put_text(&digits[..count]);
+    }
 }

@@ -1,9 +1,0 @@
--- `printing::put::put_number`: the digits that `io::decimal` gives are the decimal digits. Assumes nothing.
-use mathlib.Core.Path.{◌∙◌}
-use Rattle.printing.proofs.Adding.{adds_same}
-use Rattle.printing.proofs.Digits.{fewest_decimal}
-use Rattle.printing.proofs.put.put_number.Goals as goal
-
-pub returns : goal.returns
-returns c =
-    adds_same (c.decimal-count.ensures.digits ∙ fewest_decimal _ _ c.decimal-count.ensures.len) c.put_text.ensures
