@@ -5,12 +5,11 @@ use mathlib.Core.List.{List, [], ◌∷◌, ◌++◌, append_assoc, append-nil}
 use Prim.Native.Nat.{ℕ, zero, suc, ◌+◌, ◌-◌, ◌*◌, ◌≤◌, ◌<◌}
 use native.Mathlib.Numerals.{add-one}
 use native.Mathlib.Omega.{arith}
+use borrow.Author.Tests.{le-ltb, lt-ltb, eq-eqb, ne_eqb}
 use lib.ListN.{length, replicate, set, take, drop, length-append, take-append-drop}
 use lib.Seq.{set_at, length-take-le}
 use Rattle.layout.specs.Refusal.{Row, passed, refused, first}
-use Rattle.layout.specs.Head.{fault_row}
-use Rattle.layout.proofs.Head.{fault_before, no_fault_before}
-use Rattle.layout.proofs.Rows.{passed_before}
+use Rattle.layout.proofs.Rows.{refused_before, passed_before}
 use Rattle.layout.proofs.Runs.{one_more, put_next}
 use Rattle.meaning.specs.declared.LimitSet.{LimitSet}
 use Rattle.meaning.specs.Sets.{zero_limit, limit_at, rule_at}
@@ -18,6 +17,9 @@ use Rattle.meaning.specs.Test.{every, idle}
 use Rattle.meaning.proofs.Nothing.{nothing_tested}
 use Rattle.sets.specs.Bytes.{limit_in, limits_in, set_with, bytes_of_limit, limit_bytes}
 use Rattle.sets.specs.Rows.{limit_rows, limits_rows, nothing_row, test_rows}
+
+-- a test in code is the test in a row
+pub ruleset tests = (lt-ltb, le-ltb, eq-eqb, ne_eqb)
 
 module _ (w : ℕ) (s : LimitSet) (i c : ℕ) where
   abbrev later : List Row
@@ -27,12 +29,11 @@ module _ (w : ℕ) (s : LimitSet) (i c : ℕ) where
   unfolding limits_rows
   limits_turn h = let g : c - i ≡ suc (c - (i + 1)) = omega arith in rw (g, add-one i)
 
-  module _ (n : ℕ) (h : i < c) (e : first (limit_rows w (limit_at s i) i) ≡ fault_row n i) where
-    pub limits_faulty : (n ≡ 0 → ⊥) → first (limits_rows w s i (c - i)) ≡ refused n i
-    limits_faulty f = ap first (limits_turn h) ∙ fault_before _ later n i e f
+  pub limits_refused : {n v : ℕ} → i < c → first (limit_rows w (limit_at s i) i) ≡ refused n v → first (limits_rows w s i (c - i)) ≡ refused n v
+  limits_refused h e = ap first (limits_turn h) ∙ refused_before _ later e
 
-    pub limits_faultless : n ≡ 0 → first (limits_rows w s i (c - i)) ≡ first later
-    limits_faultless f = ap first (limits_turn h) ∙ no_fault_before _ later n i e f
+  pub limits_passed : i < c → first (limit_rows w (limit_at s i) i) ≡ passed → first (limits_rows w s i (c - i)) ≡ first later
+  limits_passed h e = ap first (limits_turn h) ∙ passed_before _ later e
 
   limits_end : c ≤ i → first (limits_rows w s i (c - i)) ≡ passed
   unfolding limits_rows first

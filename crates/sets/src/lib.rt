@@ -2,66 +2,55 @@
 // Reading refuses by 1 to 7 and then by 21; writing a set that is already in memory by 3, 5, 6, 7, 21 and then by 9.
 #![tactic(auto)]
 
-ghost use Rattle.std.specs.Prelude.{◌≡◌, ◌&&◌, ℕ, ◌+◌, ◌*◌, ◌≤◌, length};
+ghost use Rattle.std.specs.Prelude.{◌≡◌, ◌&&◌, ◌+◌, ◌*◌, ◌≤◌, length};
 ghost use Rattle.layout.specs.Refusal.{first};
-ghost use Rattle.layout.specs.Head.{fault_row};
+ghost use Rattle.layout.specs.Refused.{says};
 ghost use Rattle.meaning.specs.Longest.{longest};
 ghost use Rattle.meaning.specs.Limit.{rule_of};
 ghost use Rattle.meaning.specs.Test.{idle};
 ghost use Rattle.sets.specs.Rows.{limit_rows, test_rows, head_rows};
 ghost use Rattle.sets.specs.Bytes.{set_of, count_of};
-ghost use Rattle.sets.specs.Read.{says, refused_read, ReadAs};
+ghost use Rattle.sets.specs.Read.{ReadAs};
 
 mod write;
 
+use layout::{HeadFault, Refused};
 use meaning::{Limit, LimitSet};
 pub use write::write_set;
 
-#[derive(Clone, Copy)]
-pub enum SetAnswer {
-    Accepted,
-    Refused { number: u8, at: usize },
-}
-
-// What reading gives: a refusal's set has count 0 and all its places zero.
-#[derive(Clone, Copy)]
-pub struct SetRead {
-    pub answer: SetAnswer,
-    pub set: LimitSet,
-}
-
-// 0 for a limit with allowed numbers, else 5, 6 or 7.
-fn fault(limit: Limit, widest: u8) -> u8
-    ensures { (i : ℕ) → first (limit_rows widest limit i) ≡ fault_row result i }
+// Tests the numbers of the limit that stands at place `i` of its set.
+#[tactic(auto, using(crate::proofs::Turns::tests), unfolding(layout::specs::Refusal::first))]
+fn test_limit(limit: Limit, widest: u8, i: usize) -> Result<(), Refused>
+    ensures { says result ≡ first (limit_rows widest limit i) }
 {
     let kind = limit.kind;
     let x = limit.x;
     let k = limit.k;
     if 3 < kind {
-        return 5;
+        return Err(Refused::LimitKind { limit: i });
     }
     if kind == 3 {
         if k != 0 {
-            return 6;
+            return Err(Refused::LimitK { limit: i });
         }
         if x == 0 {
-            return 7;
+            return Err(Refused::LimitX { limit: i });
         }
         if widest < x {
-            return 7;
+            return Err(Refused::LimitX { limit: i });
         }
-        return 0;
+        return Ok(());
     }
     if k == 0 {
-        return 6;
+        return Err(Refused::LimitK { limit: i });
     }
     if widest < k {
-        return 6;
+        return Err(Refused::LimitK { limit: i });
     }
     if k < x {
-        return 7;
+        return Err(Refused::LimitX { limit: i });
     }
-    0
+    Ok(())
 }
 
 // Whether a limit with allowed numbers can't be broken, and those before it can't.
@@ -84,48 +73,43 @@ fn still_idle(before: bool, limit: Limit) -> bool
 }
 
 // RULES, What each entry tests: "limit after limit, each for 5, 6 and 7; then 21".
-fn test_limits(set: LimitSet, widest: u8) -> SetAnswer
+fn test_limits(set: LimitSet, widest: u8) -> Result<(), Refused>
     requires { set.count ≤ 8 }
     ensures { says result ≡ first (test_rows widest set) }
 {
-    let count = set.count;
     let mut nothing = true;
-    let mut i = 0;
-    while i < count {
+    for i in 0..set.count {
         let limit = set.limits[i];
-        let number = fault(limit, widest);
-        if number != 0 {
-            return SetAnswer::Refused { number, at: i };
-        }
+        test_limit(limit, widest, i)?;
         nothing = still_idle(nothing, limit);
-        i += 1;
     }
     if nothing {
-        return SetAnswer::Refused { number: 21, at: 0 };
+        return Err(Refused::LimitsNothing);
     }
-    SetAnswer::Accepted
+    Ok(())
 }
 
 // Tests 1 to 4.
-fn test_head(bytes: &[u8]) -> SetAnswer
+fn test_head(bytes: &[u8]) -> Result<(), Refused>
     ensures { says result ≡ first (head_rows bytes.now) }
 {
-    let number = layout::head_fault(bytes, 6, 1, 1, 2);
-    if number != 0 {
-        return SetAnswer::Refused { number, at: 0 };
+    match layout::check_head(bytes, 6, 1) {
+        Err(HeadFault::Length) => return Err(Refused::SetLength),
+        Err(HeadFault::Version) => return Err(Refused::SetVersion),
+        Ok(()) => {}
     }
     let rest = layout::length_field(bytes);
     let count = layout::wide(bytes[5]);
     if count == 0 {
-        return SetAnswer::Refused { number: 3, at: 0 };
+        return Err(Refused::LimitCount);
     }
     if 8 < count {
-        return SetAnswer::Refused { number: 3, at: 0 };
+        return Err(Refused::LimitCount);
     }
     if rest != 2 + 3 * count {
-        return SetAnswer::Refused { number: 4, at: 0 };
+        return Err(Refused::LimitsLength);
     }
-    SetAnswer::Accepted
+    Ok(())
 }
 
 // The limits that the bytes hold, as they are.
@@ -139,53 +123,28 @@ fn take_limits(bytes: &[u8], count: usize) -> LimitSet
         k: 0,
     };
     let mut limits = [none; 8];
-    let mut i = 0;
-    while i < count {
+    for i in 0..count {
         let at = 6 + 3 * i;
         limits[i] = Limit {
             kind: bytes[at],
             x: bytes[at + 1],
             k: bytes[at + 2],
         };
-        i += 1;
     }
     LimitSet { count, limits }
 }
 
-fn refused(number: u8, at: usize) -> SetRead
-    ensures { result ≡ refused_read number at }
-{
-    let none = Limit {
-        kind: 0,
-        x: 0,
-        k: 0,
-    };
-    SetRead {
-        answer: SetAnswer::Refused { number, at },
-        set: LimitSet {
-            count: 0,
-            limits: [none; 8],
-        },
-    }
-}
-
 // Reads a set whose windows are at most `widest` jobs.
-pub fn read_set_within(bytes: &[u8], widest: u8) -> SetRead
+pub fn read_set_within(bytes: &[u8], widest: u8) -> Result<LimitSet, Refused>
     ensures { ReadAs widest bytes.now result }
 {
-    let head = test_head(bytes);
-    if let SetAnswer::Refused { number, at } = head {
-        return refused(number, at);
-    }
+    test_head(bytes)?;
     let set = take_limits(bytes, layout::wide(bytes[5]));
-    let answer = test_limits(set, widest);
-    if let SetAnswer::Refused { number, at } = answer {
-        return refused(number, at);
-    }
-    SetRead { answer, set }
+    test_limits(set, widest)?;
+    Ok(set)
 }
 
-pub fn read_set(bytes: &[u8]) -> SetRead
+pub fn read_set(bytes: &[u8]) -> Result<LimitSet, Refused>
     ensures { ReadAs longest bytes.now result }
 {
     read_set_within(bytes, meaning::LONGEST_WINDOW)

@@ -2,26 +2,27 @@
 // Refuses by 3, 5, 6, 7, 21 and then by 9, and a refusal writes nothing.
 ghost use Rattle.std.specs.Prelude.{◌≡◌, ◌++◌, ◌+◌, ◌≤◌, length, take, drop};
 ghost use Rattle.layout.specs.Refusal.{first};
+ghost use Rattle.layout.specs.Refused.{says};
 ghost use Rattle.meaning.specs.Longest.{longest};
 ghost use Rattle.sets.specs.Bytes.{head_bytes, bytes_of_limit, limit_bytes};
 ghost use Rattle.sets.specs.Rows.{memory_rows};
-ghost use Rattle.sets.specs.Read.{says};
 ghost use Rattle.sets.specs.Write.{size_of, WrittenAs};
 
-use super::{SetAnswer, test_limits};
-use layout::WriteAnswer;
+use super::test_limits;
+use layout::Refused;
 use meaning::{Limit, LimitSet};
 
 // Tests 3, then 5, 6, 7 of each limit, and then 21.
-fn test_memory(set: LimitSet, widest: u8) -> SetAnswer
+#[tactic(auto, using(crate::proofs::Turns::tests), unfolding(layout::specs::Refusal::first))]
+fn test_memory(set: LimitSet, widest: u8) -> Result<(), Refused>
     ensures { says result ≡ first (memory_rows widest set) }
 {
     let count = set.count;
     if count == 0 {
-        return SetAnswer::Refused { number: 3, at: 0 };
+        return Err(Refused::LimitCount);
     }
     if 8 < count {
-        return SetAnswer::Refused { number: 3, at: 0 };
+        return Err(Refused::LimitCount);
     }
     test_limits(set, widest)
 }
@@ -31,21 +32,14 @@ fn put_head(out: &mut [u8], count: usize)
     requires { (count ≤ 8) × (6 ≤ length out.old) }
     ensures { out.new ≡ head_bytes count ++ drop 6 out.old }
 {
-    out[0] = 0;
-    out[1] = 0;
-    out[2] = 0;
-    out[3] = (2 + 3 * count) as u8;
-    out[4] = 1;
-    out[5] = count as u8;
+    out[..6].copy_from_slice(&[0, 0, 0, (2 + 3 * count) as u8, 1, count as u8]);
 }
 
 fn put_limit(out: &mut [u8], at: usize, limit: Limit)
     requires { at + 3 ≤ length out.old }
     ensures { out.new ≡ take at out.old ++ bytes_of_limit limit ++ drop (at + 3) out.old }
 {
-    out[at] = limit.kind;
-    out[at + 1] = limit.x;
-    out[at + 2] = limit.k;
+    out[at..at + 3].copy_from_slice(&[limit.kind, limit.x, limit.k]);
 }
 
 // All limits, from byte 6 on.
@@ -53,31 +47,21 @@ fn put_limits(out: &mut [u8], set: LimitSet)
     requires { (set.count ≤ 8) × (size_of set ≤ length out.old) }
     ensures { out.new ≡ take 6 out.old ++ limit_bytes set 0 set.count ++ drop (size_of set) out.old }
 {
-    let count = set.count;
-    let mut i = 0;
-    while i < count {
-        let limit = set.limits[i];
-        put_limit(out, 6 + 3 * i, limit);
-        i += 1;
+    for i in 0..set.count {
+        put_limit(out, 6 + 3 * i, set.limits[i]);
     }
 }
 
 // Writes a set at the start of `out`, and says how many bytes it took.
-pub fn write_set(set: LimitSet, out: &mut [u8]) -> WriteAnswer
+pub fn write_set(set: LimitSet, out: &mut [u8]) -> Result<usize, Refused>
     ensures { WrittenAs longest set out.old out.new result }
 {
-    let answer = test_memory(set, meaning::LONGEST_WINDOW);
-    if let SetAnswer::Refused { number, at } = answer {
-        return WriteAnswer::Refused { number, at };
-    }
+    test_memory(set, meaning::LONGEST_WINDOW)?;
     let size = 6 + 3 * set.count;
     if out.len() < size {
-        return WriteAnswer::Refused {
-            number: 9,
-            at: size,
-        };
+        return Err(Refused::Room { needed: size });
     }
     put_head(out, set.count);
     put_limits(out, set);
-    WriteAnswer::Written(size)
+    Ok(size)
 }

@@ -1,11 +1,7 @@
 -- `sets::take_limits` meets its contract. The invariant: the places are the bytes' first i limits, and zeros. Assumes nothing.
 use mathlib.Core.Path.{◌≡◌}
-use Prim.Native.Nat.{◌-◌, ◌≤◌}
 use Rattle.sets.specs.Bytes.{set_with}
 use Rattle.sets.proofs.take_limits.Given as goal
 
 abbrev pub invariant-loop-i : goal.invariant-loop-i
-invariant-loop-i l = (l.i ≤ l.count) × (l.limits ≡ (set_with l.bytes l.i).limits)
-
-abbrev pub decreases-loop-i : goal.decreases-loop-i
-decreases-loop-i l = l.count - l.i
+invariant-loop-i l = l.limits ≡ (set_with l.bytes l.i).limits

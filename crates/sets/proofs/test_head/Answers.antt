@@ -4,40 +4,45 @@ use mathlib.Core.Bool.{not}
 use mathlib.Core.List.{[], ◌∷◌}
 use Prim.Native.Nat.{ℕ, ◌+◌, ◌*◌, ◌≤◌}
 use native.Mathlib.Omega.{arith}
-use borrow.Author.Tests.{le-ltb, lt-ltb, eq-eqb, ne_eqb}
 use lib.Dec.{eqb}
 use lib.ListN.{length}
 use Rattle.layout.specs.Refusal.{row, Tested, first}
 use Rattle.layout.specs.Head.{head_rows as opening_rows}
-use Rattle.layout.proofs.Head.{no_fault, fault_before, no_fault_before, head_passed}
+use Rattle.layout.proofs.Head.{head_passed}
+use Rattle.layout.proofs.Rows.{refused_before, passed_before}
 use Rattle.sets.specs.Rows.{count_row, head_rows}
-use Rattle.sets.proofs.test_head.Goals.{After-wide-count, Else-number-ne0}
+use Rattle.sets.proofs.Turns.{tests}
+use Rattle.sets.proofs.test_head.Goals.{After-wide-count, In-Ok}
 use Rattle.sets.proofs.test_head.Goals as goal
-
-ruleset tests = (lt-ltb, le-ltb, eq-eqb, ne_eqb)
 
 -- tests 3 and 4 over the numbers that were read
 abbrev count_over : (rest count : ℕ) → Tested
 count_over rest count = first (count_row count ∷ row 4 (not (eqb rest (2 + 3 * count))) 0 ∷ [])
 
 -- the head was passed
-long : (c : Else-number-ne0) → 6 ≤ length c.args.bytes.now
-long c = (head_passed 6 _ _ _ c.args.bytes.now (c.head_fault-number.ensures ∙ no_fault _ 0 c.if-number-ne0.false)).0
+long : (c : In-Ok) → 6 ≤ length c.args.bytes.now
+long c = (head_passed 6 1 1 2 c.args.bytes.now (c.in-Ok.ensures 1 2)).0
 
 at_count : (c : After-wide-count) → count_over c.length_field-rest.result c.wide-count.result ≡ first (head_rows c.args.bytes.now)
 at_count c =
     ap₂ count_over c.length_field-rest.ensures.0 c.wide-count.ensures.0
-    ∙ sym (no_fault_before (opening_rows 6 1 1 2 c.args.bytes.now) _ _ 0 c.head_fault-number.ensures c.if-number-ne0.false)
+    ∙ sym (passed_before (opening_rows 6 1 1 2 c.args.bytes.now) _ (c.in-Ok.ensures 1 2))
 
-pub returns-then-number-ne0 : goal.returns-then-number-ne0
-returns-then-number-ne0 c =
-    sym (fault_before (opening_rows 6 1 1 2 c.args.bytes.now) _ _ 0 c.head_fault-number.ensures c.if-number-ne0.true)
+pub returns-in-Err-Length : goal.returns-in-Err-Length
+returns-in-Err-Length c =
+    let e = rw c.in-Err-Length.field-0-is at c.in-Err-Length.ensures 1 2 in
+    sym (refused_before (opening_rows 6 1 1 2 c.args.bytes.now) _ e)
+
+pub returns-in-Err-Version : goal.returns-in-Err-Version
+returns-in-Err-Version c =
+    let e = rw c.in-Err-Version.field-0-is at c.in-Err-Version.ensures 1 2 in
+    sym (refused_before (opening_rows 6 1 1 2 c.args.bytes.now) _ e)
 
 pub length_field-rest-requires : goal.length_field-rest-requires
-length_field-rest-requires c = omega (arith, long (goal.at.length_field-rest-requires c).Else-number-ne0)
+length_field-rest-requires c = omega (arith, long (goal.at.length_field-rest-requires c).In-Ok)
 
 pub bounds-bytes-5 : goal.bounds-bytes-5
-bounds-bytes-5 c = omega (arith, long (goal.at.bounds-bytes-5 c).Else-number-ne0)
+bounds-bytes-5 c = omega (arith, long (goal.at.bounds-bytes-5 c).In-Ok)
 
 pub returns-then-count-eq0 : goal.returns-then-count-eq0
 unfolding first
