@@ -9,9 +9,10 @@ use lib.Dec.{eqb, ltb}
 use lib.ListN.{length}
 use Rattle.layout.specs.Refusal.{Tested, row, first}
 use Rattle.layout.specs.Head.{head_rows}
-use Rattle.layout.proofs.Head.{no_fault, fault_before, no_fault_before, head_passed}
+use Rattle.layout.proofs.Head.{head_passed}
+use Rattle.layout.proofs.Rows.{refused_before, passed_before}
 use Rattle.table.specs.Rows.{most_states, count_rows}
-use Rattle.table.proofs.test_counts.Goals.{After-pair-n, Else-number-ne0}
+use Rattle.table.proofs.test_counts.Goals.{In-Ok, After-pair-n}
 use Rattle.table.proofs.test_counts.Goals as goal
 
 ruleset tests = (lt-ltb, le-ltb, eq-eqb, ne_eqb)
@@ -21,23 +22,27 @@ abbrev counts_over : (rest n : ℕ) → Tested
 counts_over rest n = first (row 12 (eqb n 0 || ltb most_states n) 0 ∷ row 12 (not (eqb rest (3 + 4 * n))) 0 ∷ [])
 
 -- the head was passed
-long : (c : Else-number-ne0) → 7 ≤ length c.args.bytes.now
-long c = (head_passed 7 _ _ _ c.args.bytes.now (c.head_fault-number.ensures ∙ no_fault _ 0 c.if-number-ne0.false)).0
+long : (c : In-Ok) → 7 ≤ length c.args.bytes.now
+long c = (head_passed 7 1 10 11 c.args.bytes.now (c.in-Ok.ensures 10 11)).0
 
 at_count : (c : After-pair-n) → counts_over c.length_field-rest.result c.pair-n.result ≡ first (count_rows c.args.bytes.now)
 at_count c =
-    ap₂ counts_over c.length_field-rest.ensures.0 c.pair-n.ensures.0
-    ∙ sym (no_fault_before (head_rows 7 1 10 11 c.args.bytes.now) _ _ 0 c.head_fault-number.ensures c.if-number-ne0.false)
+    ap₂ counts_over c.length_field-rest.ensures.0 c.pair-n.ensures
+    ∙ sym (passed_before (head_rows 7 1 10 11 c.args.bytes.now) _ (c.in-Ok.ensures 10 11))
 
-pub returns-then-number-ne0 : goal.returns-then-number-ne0
-returns-then-number-ne0 c =
-    (sym (fault_before (head_rows 7 1 10 11 c.args.bytes.now) _ _ 0 c.head_fault-number.ensures c.if-number-ne0.true), tt)
+pub returns-in-Err-Length : goal.returns-in-Err-Length
+returns-in-Err-Length c =
+    (sym (refused_before (head_rows 7 1 10 11 c.args.bytes.now) _ ((rw c.in-Err-Length.field-0-is at c.in-Err-Length.ensures) 10 11)), tt)
+
+pub returns-in-Err-Version : goal.returns-in-Err-Version
+returns-in-Err-Version c =
+    (sym (refused_before (head_rows 7 1 10 11 c.args.bytes.now) _ ((rw c.in-Err-Version.field-0-is at c.in-Err-Version.ensures) 10 11)), tt)
 
 pub length_field-rest-requires : goal.length_field-rest-requires
-length_field-rest-requires c = omega (arith, long (goal.at.length_field-rest-requires c).Else-number-ne0)
+length_field-rest-requires c = omega (arith, long (goal.at.length_field-rest-requires c).In-Ok)
 
 pub pair-n-requires : goal.pair-n-requires
-pair-n-requires c = omega (arith, long (goal.at.pair-n-requires c).Else-number-ne0)
+pair-n-requires c = omega (arith, long (goal.at.pair-n-requires c).In-Ok)
 
 pub returns-then-n-eq0 : goal.returns-then-n-eq0
 unfolding first
@@ -53,4 +58,4 @@ returns-then-rest-n c = (search tests ∙ at_count (goal.at.returns-then-rest-n 
 
 pub returns : goal.returns
 unfolding first
-returns c = (search tests ∙ at_count (goal.at.returns c).After-pair-n, c.pair-n.ensures.0)
+returns c = (search tests ∙ at_count (goal.at.returns c).After-pair-n, c.pair-n.ensures)
