@@ -10,22 +10,28 @@ use borrow.Author.Tests.{eq-eqb, ne_eqb, le-leb}
 use lib.Dec.{ltb}
 use lib.ListN.{length, set, length-set}
 use lib.Seq.{get_or-set_same}
+use Rattle.std.specs.Prelude.{⊤, Result, Ok, Err}
+use Rattle.layout.specs.declared.Refused.{Refused}
+use Rattle.layout.specs.Refused.{says}
 use Rattle.table.specs.Shared.{Tested, passed, refused, first, outcome, Machine}
 use Rattle.table.specs.Bytes.{machine_of}
 use Rattle.table.specs.Rows.{table_rows, look_rows}
 use Rattle.table.proofs.Shared.{first_skip, passed_first, passed_not_refused}
 use Rattle.guard.specs.declared.Guard.{Guard}
-use Rattle.guard.specs.declared.StartAnswer.{StartAnswer}
-use Rattle.guard.specs.declared.StartAnswer.TheVariants as start
-use Rattle.guard.specs.declared.AskAnswer.{AskAnswer}
-use Rattle.guard.specs.Guard.{fresh, start_says, AskedAs, after, tell_rows, told_when, ToldAs}
+use Rattle.guard.specs.declared.Answer.{Answer}
+use Rattle.guard.specs.Guard.{fresh, StartedAs, AskedAs, after, tell_rows, told_when, ToldAs}
 use Rattle.guard.specs.Told.{told_all}
 use Rattle.guard.specs.Row.{most_guards, guard_at, outside, job_row, ChangesOnly, row_started_when, RowStartedAs, RowAskedAs, row_told_when}
-use Rattle.guard.specs.Runs.{Call, starts, asks, tells, taken, Run, RowCall, RowStep, RowRun, calls_of, OnTable, bytes_told}
+use Rattle.guard.specs.Runs.{Call, starts, asks, tells, with_guard, taken, Run, RowCall, RowStep, RowRun, calls_of, OnTable, bytes_told}
 use Rattle.guard.proofs.RowLaws.{others_stay_at_start, others_stay_at_tell}
 
 pub inside_below : (count job : ℕ) → outside count job ≡ false → job < count
 inside_below count job e = dite (dec_lt job count) (λ h. h) (λ h. absurd (true≢false (sym (ap (λ z. z || ltb most_guards count) (le-leb count job (omega arith))) ∙ e)))
+
+-- a start, with a guard with nothing told
+own_start : (b : List ℕ) (a : Result ⊤ Refused) → says a ≡ first (table_rows b) → StartedAs b (with_guard fresh a)
+own_start b (Ok x) e = record { refusal = e; guard = refl }
+own_start b (Err why) e = record { refusal = e; guard = refl }
 
 -- a call of any job changes that job's record only
 step_changes : (r : List Guard) (other : ℕ) (c : Call) (r' : List Guard) → RowStep r other c r' → ChangesOnly other r r'
@@ -39,22 +45,22 @@ run_count r (c ∷ calls) last (r', s, rest) = run_count r' calls last rest ∙ 
 
 module _ (job : ℕ) where
   module _ (r : List Guard) (e : outside (length r) job ≡ false) where
-    pub own_ask : (b : List ℕ) (a : AskAnswer) → RowAskedAs r job b a → AskedAs b (guard_at r job) (record { answer = a; guard = guard_at r job })
-    own_ask b a asked = record { refusal = asked.refusal ∙ first_skip 14 0 (outside (length r) job) (look_rows b (guard_at r job).state) e; answer = asked.answer; guard = refl }
+    pub own_ask : (b : List ℕ) (a : Result Answer Refused) → RowAskedAs r job b a → AskedAs b (guard_at r job) a
+    own_ask b a asked = record { refusal = asked.refusal ∙ first_skip 14 0 (outside (length r) job) (look_rows b (guard_at r job).state) e; answer = asked.answer }
 
     -- a call of the job, seen from its own guard
     own_step : (c : Call) (r' : List Guard) → RowStep r job c r' → (calls : List Call) (h : Guard) → Run (guard_at r' job) calls h → Run (guard_at r job) (c ∷ calls) h
     own_step (starts b a) r' s calls h rest =
         let f = first_skip 14 0 (outside (length r) job) (table_rows b) e in
         let g = go a (first (table_rows b)) (s.refusal ∙ f) (s.row ∙ ap (λ t. row_started_when t r job) f) in
-        (fresh, record { refusal = s.refusal ∙ f; guard = refl }, subst (λ z. Run z calls h) g rest)
+        (fresh, own_start b a (s.refusal ∙ f), subst (λ z. Run z calls h) g rest)
       where
-        go : (a : StartAnswer) (t : Tested) → start_says a ≡ t → r' ≡ row_started_when t r job → guard_at r' job ≡ taken a fresh (guard_at r job)
-        go start.Started passed q w = ap (λ z. guard_at z job) w ∙ get_or-set_same r job fresh fresh (inside_below (length r) job e)
-        go start.Started (refused n v) q w = absurd (passed_not_refused q)
-        go (start.Refused n v) passed q w = absurd (passed_not_refused (sym q))
-        go (start.Refused n v) (refused k u) q w = ap (λ z. guard_at z job) w
-    own_step (asks b a) r' (s, w) calls h rest = (guard_at r job, own_ask b a s, subst (λ z. Run (guard_at z job) calls h) w rest)
+        go : (a : Result ⊤ Refused) (t : Tested) → says a ≡ t → r' ≡ row_started_when t r job → guard_at r' job ≡ taken a fresh (guard_at r job)
+        go (Ok x) passed q w = ap (λ z. guard_at z job) w ∙ get_or-set_same r job fresh fresh (inside_below (length r) job e)
+        go (Ok x) (refused n v) q w = absurd (passed_not_refused q)
+        go (Err why) passed q w = absurd (passed_not_refused (sym q))
+        go (Err why) (refused k u) q w = ap (λ z. guard_at z job) w
+    own_step (asks b a) r' (s, w) calls h rest = (own_ask b a s, subst (λ z. Run (guard_at z job) calls h) w rest)
     own_step (tells b byte a) r' s calls h rest =
         let f = first_skip 14 0 (outside (length r) job) (tell_rows b (guard_at r job) byte) e in
         let g = go (first (tell_rows b (guard_at r job) byte)) (machine_of b) (outcome byte) (s.row ∙ ap (λ t. row_told_when t (machine_of b) r job (outcome byte)) f) in
@@ -80,12 +86,12 @@ module _ (job : ℕ) where
 pub run_told : (b : List ℕ) (g : Guard) (calls : List Call) (h : Guard) → OnTable b calls → Run g calls h → h ≡ told_all b g (bytes_told calls)
 run_told b g [] h on e = e
 run_told b g (starts b' a ∷ calls) h on w = absurd on
-run_told b g (asks b' a ∷ calls) h (q, on) (s, asked, rest) = run_told b s calls h on rest ∙ ap (λ z. told_all b z (bytes_told calls)) asked.guard
+run_told b g (asks b' a ∷ calls) h (q, on) (asked, rest) = run_told b g calls h on rest
 run_told b g (tells b' byte a ∷ calls) h (q, on) (s, told, rest) =
-    run_told b s calls h on rest ∙ ap (λ z. told_all b z (bytes_told calls)) (subst (λ z. ToldAs z g byte (record { answer = a; guard = s })) q told).guard
+    run_told b s calls h on rest ∙ ap (λ z. told_all b z (bytes_told calls)) (subst (λ z. ToldAs z g byte a s) q told).guard
 
 -- a job that was started on a table, and of whose later calls all are asks and tells on it: it is one of the row's, and its record is the guard after the bytes told to it
-pub started_job : (b : List ℕ) (row started last : List Guard) (job : ℕ) (calls : List RowCall) → RowStartedAs row job b start.Started started → RowRun started calls last → OnTable b (calls_of job calls)
+pub started_job : (b : List ℕ) (row started last : List Guard) (job : ℕ) (calls : List RowCall) → RowStartedAs row job b (Ok tt) started → RowRun started calls last → OnTable b (calls_of job calls)
     → (outside (length last) job ≡ false) × (guard_at last job ≡ told_all b fresh (bytes_told (calls_of job calls)))
 started_job b row started last job calls s run on =
     let e = (passed_first (job_row row job) (table_rows b) (sym s.refusal)).0 in

@@ -9,14 +9,17 @@ use native.Mathlib.Decide.{dec_lt}
 use native.Mathlib.Omega.{arith}
 use borrow.Author.Tests.{lt-ltb, le-ltb, le-leb, lt-leb}
 use lib.Dec.{leb, ltb}
+use Rattle.std.specs.Prelude.{Result}
+use Rattle.layout.specs.declared.Refused.{Refused}
+use Rattle.layout.specs.Refused.{says}
 use Rattle.table.specs.Shared.{Row, row, passed, refused, first, outcome, Machine, WellMade}
 use Rattle.table.specs.Bytes.{state_count, machine_of}
 use Rattle.table.specs.Rows.{table_rows, look_rows}
 use Rattle.table.proofs.Shared.{first_here, first_skip, passed_before}
 use Rattle.table.proofs.Checked.{checked_looks, checked_well_made}
 use Rattle.guard.specs.declared.Guard.{Guard}
-use Rattle.guard.specs.declared.Asked.{Asked}
-use Rattle.guard.specs.Guard.{most_told, fresh, ask_says, AskedAs, lost_in, moved, after, tell_rows, told_when}
+use Rattle.guard.specs.declared.Answer.{Answer}
+use Rattle.guard.specs.Guard.{most_told, fresh, AskedAs, lost_in, moved, after, tell_rows, told_when}
 use Rattle.guard.specs.Told.{after_all, told_all, heard_after, heard, ByWalk}
 use Rattle.guard.proofs.Heard.{heard_none, heard_not, heard_one, heard_full}
 use Rattle.guard.proofs.Walked.{count_grows}
@@ -40,7 +43,7 @@ module _ (b : List ℕ) (e : first (table_rows b) ≡ passed) where
   m = machine_of b
 
   module _ (g : Guard) (h : g.state < state_count b) where
-    asked_in_table : (r : Asked) → AskedAs b g r → ask_says r.answer ≡ passed
+    asked_in_table : (r : Result Answer Refused) → AskedAs b g r → says r ≡ passed
     asked_in_table r asked = asked.refusal ∙ checked_looks b e g.state h
 
     abbrev left : ℕ → List Row
@@ -92,7 +95,7 @@ module _ (b : List ℕ) (e : first (table_rows b) ≡ passed) where
   never_leaves p = states_below m (checked_well_made b e) fresh p some_state
 
   -- a guard started on a checked table, told these bytes and asked
-  pub answers_by_walk : (bytes : List ℕ) (r : Asked) → AskedAs b (told_all b fresh bytes) r → ByWalk m 0 (heard bytes) r.answer
+  pub answers_by_walk : (bytes : List ℕ) (r : Result Answer Refused) → AskedAs b (told_all b fresh bytes) r → ByWalk m 0 (heard bytes) r
   answers_by_walk bytes r asked =
       let walked = subst (λ g. AskedAs b g r) (told_all_lem bytes) asked in
-      ask_by_walk m 0 fresh.outcomes 0 (heard bytes) r.answer (asked_in_table (after_all m fresh (heard bytes)) (never_leaves (heard bytes)) r walked) walked.answer
+      ask_by_walk m 0 fresh.outcomes 0 (heard bytes) r (asked_in_table (after_all m fresh (heard bytes)) (never_leaves (heard bytes)) r walked) walked.answer

@@ -4,35 +4,36 @@ use mathlib.Core.Bool.{true, false}
 use mathlib.Core.List.{List, [], ◌∷◌, ◌++◌}
 use Prim.Native.Nat.{ℕ}
 use lib.ListN.{replicate}
+use Rattle.std.specs.Prelude.{Ok}
 use Rattle.table.specs.Shared.{first}
 use Rattle.table.proofs.Worked.{any_hit_1_2}
 use Rattle.guard.specs.declared.Guard.{Guard}
-use Rattle.guard.specs.declared.AskAnswer.{AskAnswer}
-use Rattle.guard.specs.declared.AskAnswer.TheVariants as ask
+use Rattle.guard.specs.declared.Answer.{Answer}
+use Rattle.guard.specs.declared.Answer.TheVariants.{Normal, Panic, Lost}
 use Rattle.guard.specs.Guard.{fresh, AskedAs, lost_in}
 use Rattle.guard.specs.Told.{told_all}
 
 abbrev told : List ℕ → Guard
 told bytes = told_all any_hit_1_2 fresh bytes
 
-abbrev Answers : List ℕ → AskAnswer → Type 0
-Answers bytes a = AskedAs any_hit_1_2 (told bytes) (record { answer = a; guard = told bytes })
+abbrev Answers : List ℕ → Answer → Type 0
+Answers bytes a = AskedAs any_hit_1_2 (told bytes) (Ok a)
 
 pub any_hit_1_2_answers :
-    Answers [] ask.Normal
-    × Answers (0 ∷ []) ask.Panic
-    × Answers (0 ∷ 1 ∷ []) ask.Normal
-    × Answers (0 ∷ 2 ∷ []) ask.Panic
-    × Answers (0 ∷ 0 ∷ []) ask.Lost
-    × Answers (0 ∷ 0 ∷ 1 ∷ []) ask.Lost
+    Answers [] Normal
+    × Answers (0 ∷ []) Panic
+    × Answers (0 ∷ 1 ∷ []) Normal
+    × Answers (0 ∷ 2 ∷ []) Panic
+    × Answers (0 ∷ 0 ∷ []) Lost
+    × Answers (0 ∷ 0 ∷ 1 ∷ []) Lost
     × (told (0 ∷ 0 ∷ 1 ∷ []) ≡ lost_in 1 (replicate 14 true ++ false ∷ []) 3)
 unfolding first
 any_hit_1_2_answers = (
-  record { refusal = refl; answer = (refl, (1, refl)); guard = refl },
-  record { refusal = refl; answer = (refl, refl); guard = refl },
-  record { refusal = refl; answer = (refl, (1, refl)); guard = refl },
-  record { refusal = refl; answer = (refl, refl); guard = refl },
-  record { refusal = refl; answer = refl; guard = refl },
-  record { refusal = refl; answer = refl; guard = refl },
+  record { refusal = refl; answer = (refl, (1, refl)) },
+  record { refusal = refl; answer = (refl, refl) },
+  record { refusal = refl; answer = (refl, (1, refl)) },
+  record { refusal = refl; answer = (refl, refl) },
+  record { refusal = refl; answer = refl },
+  record { refusal = refl; answer = refl },
   refl,
 )

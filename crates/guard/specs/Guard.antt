@@ -1,19 +1,14 @@
 -- RULES, The guard: "A guard is a small record by value: the number of a state; whether it is lost; the last 15 outcomes, as truth values, the oldest first; and how many outcomes it was told, a number of 64 bits. It goes into a call and comes out beside the answer".
-use Rattle.std.specs.Prelude.{◌≡◌, Bool, true, false, cond, List, [], ◌∷◌, ◌++◌, ℕ, ◌+◌, leb, ltb, length, drop, replicate}
+use Rattle.std.specs.Prelude.{◌≡◌, Bool, true, false, cond, List, [], ◌∷◌, ◌++◌, ℕ, ◌+◌, leb, ltb, length, drop, replicate, ⊤, Result, Ok, Err}
 use Rattle.std.proofs.Math.Option.{Option, none, some}
+use Rattle.layout.specs.declared.Refused.{Refused}
+use Rattle.layout.specs.Refused.{says}
 use Rattle.table.specs.Shared.{Row, row, Tested, passed, refused, first, outcome, Machine}
 use Rattle.table.specs.Bytes.{machine_of}
 use Rattle.table.specs.Rows.{table_rows, look_rows}
 use Rattle.guard.specs.declared.Guard.{Guard}
-use Rattle.guard.specs.declared.Started.{Started}
-use Rattle.guard.specs.declared.Asked.{Asked}
-use Rattle.guard.specs.declared.Told.{Told}
-use Rattle.guard.specs.declared.StartAnswer.{StartAnswer}
-use Rattle.guard.specs.declared.StartAnswer.TheVariants as start
-use Rattle.guard.specs.declared.AskAnswer.{AskAnswer}
-use Rattle.guard.specs.declared.AskAnswer.TheVariants as ask
-use Rattle.guard.specs.declared.TellAnswer.{TellAnswer}
-use Rattle.guard.specs.declared.TellAnswer.TheVariants as tell
+use Rattle.guard.specs.declared.Answer.{Answer}
+use Rattle.guard.specs.declared.Answer.TheVariants.{Normal, Panic, Lost}
 
 -- how many outcomes a guard holds. That it is one less than the longest window is said where limits are known, in `carry`.
 abbrev pub held : ℕ
@@ -31,38 +26,30 @@ standing s os n = record { state = s; lost = false; outcomes = os; count = n }
 abbrev pub fresh : Guard
 fresh = standing 0 (replicate held true) 0
 
--- the number of each answer of a start, and what else is returned
-abbrev pub start_says : StartAnswer → Tested
-start_says start.Started = passed
-start_says (start.Refused number at) = refused number at
+-- the guard of a start, one with nothing told where it is refused
+abbrev pub guard_in : Result Guard Refused → Guard
+guard_in (Ok g) = g
+guard_in (Err r) = fresh
 
 -- RULES, What each entry tests, start: "as the table check, the whole table". The guard is the same, refused or not.
-pub record StartedAs (b : List ℕ) (r : Started) : Type 0 where
-  pub refusal : start_says r.answer ≡ first (table_rows b)
-  pub guard : r.guard ≡ fresh
-
--- the number of each answer of an ask, and what else is returned
-abbrev pub ask_says : AskAnswer → Tested
-ask_says ask.Normal = passed
-ask_says ask.Panic = passed
-ask_says ask.Lost = passed
-ask_says (ask.Refused number at) = refused number at
+pub record StartedAs (b : List ℕ) (r : Result Guard Refused) : Type 0 where
+  pub refusal : says r ≡ first (table_rows b)
+  pub guard : guard_in r ≡ fresh
 
 -- RULES, The guard: "Ask, before a job, answers lost if the guard is lost, else panic if its state allows no miss, else normal. It changes nothing." What an answer that isn't a refusal says of a guard, by where a miss leads from its state.
-abbrev pub StandingBy : Option ℕ → Guard → AskAnswer → Type 0
-StandingBy miss g ask.Normal = (g.lost ≡ false) × ((t : ℕ) × (miss ≡ some t))
-StandingBy miss g ask.Panic = (g.lost ≡ false) × (miss ≡ none)
-StandingBy miss g ask.Lost = g.lost ≡ true
-StandingBy miss g (ask.Refused number at) = Unit {0}
+abbrev pub StandingBy : Option ℕ → Guard → Result Answer Refused → Type 0
+StandingBy miss g (Ok Normal) = (g.lost ≡ false) × ((t : ℕ) × (miss ≡ some t))
+StandingBy miss g (Ok Panic) = (g.lost ≡ false) × (miss ≡ none)
+StandingBy miss g (Ok Lost) = g.lost ≡ true
+StandingBy miss g (Err r) = Unit {0}
 
-abbrev pub Standing : Machine → Guard → AskAnswer → Type 0
+abbrev pub Standing : Machine → Guard → Result Answer Refused → Type 0
 Standing m g = StandingBy (m.next g.state false) g
 
 -- "A lost guard is tested like any other."
-pub record AskedAs (b : List ℕ) (g : Guard) (r : Asked) : Type 0 where
-  pub refusal : ask_says r.answer ≡ first (look_rows b g.state)
-  pub answer : Standing (machine_of b) g r.answer
-  pub guard : r.guard ≡ g
+pub record AskedAs (b : List ℕ) (g : Guard) (r : Result Answer Refused) : Type 0 where
+  pub refusal : says r ≡ first (look_rows b g.state)
+  pub answer : Standing (machine_of b) g r
 
 -- what is held of the outcomes held so far and of new ones after them: as many as before, the newest
 abbrev pub latest : (os new : List Bool) → List Bool
@@ -86,11 +73,6 @@ after m g o = after_by (m.next g.state o) g o
 abbrev pub tell_rows : List ℕ → Guard → ℕ → List Row
 tell_rows b g byte = look_rows b g.state ++ (row 13 (ltb 1 byte) 0 ∷ row 17 (leb most_told g.count) 0 ∷ [])
 
--- the number of each answer of a tell, and what else is returned
-abbrev pub tell_says : TellAnswer → Tested
-tell_says tell.Told = passed
-tell_says (tell.Refused number at) = refused number at
-
 -- the guard after a tell: moved by the outcome, or as it was where the tell is refused
 abbrev pub told_when : Tested → Machine → Guard → Bool → Guard
 told_when passed m g o = after m g o
@@ -99,6 +81,7 @@ told_when (refused number at) m g o = g
 abbrev pub told_of : List ℕ → Guard → ℕ → Guard
 told_of b g byte = told_when (first (tell_rows b g byte)) (machine_of b) g (outcome byte)
 
-pub record ToldAs (b : List ℕ) (g : Guard) (byte : ℕ) (r : Told) : Type 0 where
-  pub refusal : tell_says r.answer ≡ first (tell_rows b g byte)
-  pub guard : r.guard ≡ told_of b g byte
+-- the answer of a tell, and the guard then
+pub record ToldAs (b : List ℕ) (g : Guard) (byte : ℕ) (r : Result ⊤ Refused) (g' : Guard) : Type 0 where
+  pub refusal : says r ≡ first (tell_rows b g byte)
+  pub guard : g' ≡ told_of b g byte

@@ -1,29 +1,32 @@
--- RULES, The row: "No other guard changes, and what a job hears depends on no guard but its own." To say so of whole runs: calls one after the other, as they were answered, of one guard and of a row of guards. A caller takes the guard that comes back; where a start is refused it keeps the one it had.
-use Rattle.std.specs.Prelude.{◌≡◌, cond, List, [], ◌∷◌, ℕ, eqb}
+-- RULES, The row: "No other guard changes, and what a job hears depends on no guard but its own." To say so of whole runs: calls one after the other, as they were answered, of one guard and of a row of guards. A tell leaves the guard where the caller has it; where a start is refused the caller keeps the one it had.
+use Rattle.std.specs.Prelude.{◌≡◌, cond, List, [], ◌∷◌, ℕ, eqb, ⊤, Result, Ok, Err}
+use Rattle.layout.specs.declared.Refused.{Refused}
 use Rattle.guard.specs.declared.Guard.{Guard}
-use Rattle.guard.specs.declared.StartAnswer.{StartAnswer}
-use Rattle.guard.specs.declared.StartAnswer.TheVariants as start
-use Rattle.guard.specs.declared.AskAnswer.{AskAnswer}
-use Rattle.guard.specs.declared.TellAnswer.{TellAnswer}
+use Rattle.guard.specs.declared.Answer.{Answer}
 use Rattle.guard.specs.Guard.{StartedAs, AskedAs, ToldAs}
 use Rattle.guard.specs.Row.{RowStartedAs, RowAskedAs, RowToldAs}
 
 -- a call with the table that it was lent, and its answer
 pub data Call : Type 0 where
-  starts : List ℕ → StartAnswer → Call
-  asks : List ℕ → AskAnswer → Call
-  tells : List ℕ → (byte : ℕ) → TellAnswer → Call
+  starts : List ℕ → Result ⊤ Refused → Call
+  asks : List ℕ → Result Answer Refused → Call
+  tells : List ℕ → (byte : ℕ) → Result ⊤ Refused → Call
 
-abbrev pub taken : StartAnswer → (started old : Guard) → Guard
-taken start.Started started old = started
-taken (start.Refused number at) started old = old
+-- the answer of a start with the guard that it gives
+abbrev pub with_guard : Guard → Result ⊤ Refused → Result Guard Refused
+with_guard g (Ok x) = Ok g
+with_guard g (Err r) = Err r
+
+abbrev pub taken : Result ⊤ Refused → (started old : Guard) → Guard
+taken (Ok x) started old = started
+taken (Err r) started old = old
 
 -- from guard g through the calls to guard h, each answered as its promise allows
 abbrev pub Run : Guard → List Call → Guard → Type 0
 Run g [] h = h ≡ g
-Run g (starts b a ∷ calls) h = (s : Guard) × StartedAs b (record { answer = a; guard = s }) × Run (taken a s g) calls h
-Run g (asks b a ∷ calls) h = (s : Guard) × AskedAs b g (record { answer = a; guard = s }) × Run s calls h
-Run g (tells b byte a ∷ calls) h = (s : Guard) × ToldAs b g byte (record { answer = a; guard = s }) × Run s calls h
+Run g (starts b a ∷ calls) h = (s : Guard) × StartedAs b (with_guard s a) × Run (taken a s g) calls h
+Run g (asks b a ∷ calls) h = AskedAs b g a × Run g calls h
+Run g (tells b byte a ∷ calls) h = (s : Guard) × ToldAs b g byte a s × Run s calls h
 
 -- a call on a row, for one job
 pub record RowCall : Type 0 where

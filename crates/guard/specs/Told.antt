@@ -1,9 +1,10 @@
 -- A guard told outcomes one after the other. RULES, The guard: "the state of a guard started there is the one to which the outcomes told so far lead".
-use Rattle.std.specs.Prelude.{◌≡◌, ◌↔◌, Bool, false, cond, List, [], ◌∷◌, ◌++◌, ℕ, ◌-◌, ltb, take}
+use Rattle.std.specs.Prelude.{◌≡◌, ◌↔◌, Bool, false, cond, List, [], ◌∷◌, ◌++◌, ℕ, ◌-◌, ltb, take, Result, Ok}
+use Rattle.layout.specs.declared.Refused.{Refused}
 use Rattle.table.specs.Shared.{outcome, Machine, Can}
 use Rattle.guard.specs.declared.Guard.{Guard}
-use Rattle.guard.specs.declared.AskAnswer.{AskAnswer}
-use Rattle.guard.specs.declared.AskAnswer.TheVariants as ask
+use Rattle.guard.specs.declared.Answer.{Answer}
+use Rattle.guard.specs.declared.Answer.TheVariants.{Normal, Panic, Lost}
 use Rattle.guard.specs.Guard.{most_told, after, told_of}
 
 -- the guard after outcomes, oldest first
@@ -30,7 +31,7 @@ abbrev pub heard : List ℕ → List Bool
 heard bytes = heard_after 0 bytes
 
 -- what an answer says of outcomes p told from state s: RULES, Lost and Panic, said of what can be walked
-pub record ByWalk (m : Machine) (s : ℕ) (p : List Bool) (a : AskAnswer) : Type 0 where
-  pub lost : (a ≡ ask.Lost) ↔ (Can m s p → ⊥)
-  pub panic : (a ≡ ask.Panic) ↔ (Can m s p × (Can m s (p ++ false ∷ []) → ⊥))
-  pub normal : (a ≡ ask.Normal) ↔ (Can m s p × Can m s (p ++ false ∷ []))
+pub record ByWalk (m : Machine) (s : ℕ) (p : List Bool) (a : Result Answer Refused) : Type 0 where
+  pub lost : (a ≡ Ok Lost) ↔ (Can m s p → ⊥)
+  pub panic : (a ≡ Ok Panic) ↔ (Can m s p × (Can m s (p ++ false ∷ []) → ⊥))
+  pub normal : (a ≡ Ok Normal) ↔ (Can m s p × Can m s (p ++ false ∷ []))

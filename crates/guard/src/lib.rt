@@ -3,14 +3,14 @@
 // The row's calls refuse by 14 first.
 #![tactic(auto)]
 
-ghost use Rattle.std.specs.Prelude.{◌≡◌, false, [], ◌∷◌, ◌+◌, ◌<◌};
-ghost use Rattle.table.specs.Shared.{passed};
+ghost use Rattle.std.specs.Prelude.{◌≡◌, false, [], ◌∷◌, ◌+◌, ◌<◌, Ok};
 ghost use Rattle.table.specs.Check.{move_by};
-ghost use Rattle.guard.specs.Guard.{most_told, standing, fresh, StartedAs, ask_says, StandingBy, AskedAs, latest, lost_in, after_by, ToldAs};
+ghost use Rattle.guard.specs.Guard.{most_told, standing, fresh, StartedAs, StandingBy, AskedAs, latest, lost_in, after_by, ToldAs};
 
 pub mod row;
 
-use table::{Looked, Moves, TableAnswer};
+use layout::Refused;
+use table::Moves;
 
 // How many outcomes a guard holds: one less than the longest window. `carry`, which sees both, proves that they agree.
 pub const HELD: usize = 15;
@@ -18,10 +18,9 @@ pub const HELD: usize = 15;
 // The largest count of outcomes told.
 const MOST_TOLD: u64 = 18446744073709551615;
 
-// A guard goes in by value and comes back beside the answer. Its outcomes are the last ones told, oldest first, hits
-// where fewer were told; the count is of all of them.
+// A guard's outcomes are the last ones told, oldest first, hits where fewer were told; the count is of all of them.
 #[repr(C)]
-#[derive(Clone, Copy)]
+#[derive(Clone, Copy, Debug, PartialEq, Eq)]
 pub struct Guard {
     pub state: u16,
     pub lost: bool,
@@ -29,42 +28,12 @@ pub struct Guard {
     pub count: u64,
 }
 
-#[derive(Clone, Copy)]
-pub enum StartAnswer {
-    Started,
-    Refused { number: u8, at: usize },
-}
-
-#[derive(Clone, Copy)]
-pub struct Started {
-    pub answer: StartAnswer,
-    pub guard: Guard,
-}
-
-#[derive(Clone, Copy)]
-pub enum AskAnswer {
+// What a guard says before a job: a miss is still allowed, or it isn't, or the guard is lost.
+#[derive(Clone, Copy, Debug, PartialEq, Eq)]
+pub enum Answer {
     Normal,
     Panic,
     Lost,
-    Refused { number: u8, at: usize },
-}
-
-#[derive(Clone, Copy)]
-pub struct Asked {
-    pub answer: AskAnswer,
-    pub guard: Guard,
-}
-
-#[derive(Clone, Copy)]
-pub enum TellAnswer {
-    Told,
-    Refused { number: u8, at: usize },
-}
-
-#[derive(Clone, Copy)]
-pub struct Told {
-    pub answer: TellAnswer,
-    pub guard: Guard,
 }
 
 // The outcomes held with a new one as the newest, without the oldest. Each takes the place before it, and the new one
@@ -73,12 +42,10 @@ fn latest_of(outcomes: [bool; HELD], hit: bool) -> [bool; HELD]
     ensures { result ≡ latest outcomes (hit ∷ []) }
 {
     let mut after = outcomes;
-    let mut i = 0;
-    after[i] = hit;
-    while i < HELD - 1 {
+    after[0] = hit;
+    for i in 0..HELD - 1 {
         after[i] = outcomes[i + 1];
-        i += 1;
-        after[i] = hit;
+        after[i + 1] = hit;
     }
     after
 }
@@ -96,144 +63,88 @@ impl Guard {
         }
     }
 
-    // A guard with nothing told; a refused start gives the same guard.
-    pub fn start(table: &[u8]) -> Started
+    // A guard with nothing told.
+    pub fn start(table: &[u8]) -> Result<Guard, Refused>
         ensures { StartedAs table.now result }
     {
-        let guard = Guard::new();
-        let checked = table::check_table(table);
-        if let TableAnswer::Refused { number, at } = checked {
-            return Started {
-                answer: StartAnswer::Refused { number, at },
-                guard,
-            };
-        }
-        Started {
-            answer: StartAnswer::Started,
-            guard,
-        }
+        table::check_table(table)?;
+        Ok(Guard::new())
     }
 
     // What the moves of its state let a guard answer.
-    fn answer(self, moves: Moves) -> AskAnswer
-        ensures { (ask_says result ≡ passed) × StandingBy (move_by moves false) self result }
+    fn answer(&self, moves: Moves) -> Answer
+        ensures { StandingBy (move_by moves false) self.now (Ok result) }
     {
         if self.lost {
-            return AskAnswer::Lost;
+            return Answer::Lost;
         }
-        if moves.may_miss {
-            return AskAnswer::Normal;
+        match moves.miss {
+            Some(_) => Answer::Normal,
+            None => Answer::Panic,
         }
-        AskAnswer::Panic
     }
 
     // The guard that goes to a state with an outcome told.
-    fn to(self, state: u16, hit: bool) -> Guard
-        requires { self.count < most_told }
-        ensures { result ≡ standing state (latest self.outcomes (hit ∷ [])) (self.count + 1) }
+    fn to(&self, state: u16, hit: bool) -> Guard
+        requires { self.now.count < most_told }
+        ensures { result ≡ standing state (latest self.now.outcomes (hit ∷ [])) (self.now.count + 1) }
     {
-        let before = self.outcomes;
-        let outcomes = latest_of(before, hit);
         Guard {
             state,
             lost: false,
-            outcomes,
+            outcomes: latest_of(self.outcomes, hit),
             count: self.count + 1,
         }
     }
 
     // The guard lost where it stands, with an outcome counted.
-    fn to_lost(self) -> Guard
-        requires { self.count < most_told }
-        ensures { result ≡ lost_in self.state self.outcomes (self.count + 1) }
+    fn to_lost(&self) -> Guard
+        requires { self.now.count < most_told }
+        ensures { result ≡ lost_in self.now.state self.now.outcomes (self.now.count + 1) }
     {
-        let outcomes = self.outcomes;
         Guard {
             state: self.state,
             lost: true,
-            outcomes,
+            outcomes: self.outcomes,
             count: self.count + 1,
         }
     }
 
     // Where the moves of its state lead a guard that is told an outcome.
-    fn moved(self, moves: Moves, hit: bool) -> Guard
-        requires { self.count < most_told }
-        ensures { result ≡ after_by (move_by moves hit) self hit }
+    fn moved(&self, moves: Moves, hit: bool) -> Guard
+        requires { self.now.count < most_told }
+        ensures { result ≡ after_by (move_by moves hit) self.now hit }
     {
         if self.lost {
             return self.to_lost();
         }
-        let mut next = moves.hit;
-        if !hit {
-            if !moves.may_miss {
-                return self.to_lost();
-            }
-            next = moves.miss;
+        let next = if hit { Some(moves.hit) } else { moves.miss };
+        match next {
+            Some(state) => self.to(state, hit),
+            None => self.to_lost(),
         }
-        self.to(next, hit)
     }
 
     // Before a job: whether a miss is still allowed.
-    pub fn ask(self, table: &[u8]) -> Asked
-        ensures { AskedAs table.now self result }
+    pub fn ask(&self, table: &[u8]) -> Result<Answer, Refused>
+        ensures { AskedAs table.now self.now result }
     {
-        let state = self.state;
-        let looked = table::look(table, state);
-        match looked {
-            Looked::Refused { number, at } => Asked {
-                answer: AskAnswer::Refused { number, at },
-                guard: self,
-            },
-            Looked::Moves(moves) => {
-                let answer = self.answer(moves);
-                Asked {
-                    answer,
-                    guard: self,
-                }
-            }
-        }
+        let moves = table::look(table, self.state)?;
+        Ok(self.answer(moves))
     }
 
-    // After a job: its outcome, 1 for a hit and 0 for a miss.
-    pub fn tell(self, table: &[u8], outcome: u8) -> Told
-        ensures { ToldAs table.now self outcome result }
+    // After a job: its outcome, 1 for a hit and 0 for a miss. A refused tell leaves the guard as it was.
+    pub fn tell(&mut self, table: &[u8], outcome: u8) -> Result<(), Refused>
+        ensures { ToldAs table.now self.old outcome result self.new }
     {
-        let state = self.state;
-        // What a refusal gives back. A copy of the whole record would take the bytes between its fields along, and the tell
-        // wouldn't be inlined.
-        let held = self.outcomes;
-        let same = Guard {
-            state,
-            lost: self.lost,
-            outcomes: held,
-            count: self.count,
-        };
-        let looked = table::look(table, state);
-        match looked {
-            Looked::Refused { number, at } => Told {
-                answer: TellAnswer::Refused { number, at },
-                guard: same,
-            },
-            Looked::Moves(moves) => {
-                if 1 < outcome {
-                    return Told {
-                        answer: TellAnswer::Refused { number: 13, at: 0 },
-                        guard: same,
-                    };
-                }
-                if MOST_TOLD <= self.count {
-                    return Told {
-                        answer: TellAnswer::Refused { number: 17, at: 0 },
-                        guard: same,
-                    };
-                }
-                let guard = self.moved(moves, outcome != 0);
-                Told {
-                    answer: TellAnswer::Told,
-                    guard,
-                }
-            }
+        let moves = table::look(table, self.state)?;
+        if 1 < outcome {
+            return Err(Refused::Outcome { place: 0 });
         }
+        if MOST_TOLD <= self.count {
+            return Err(Refused::Count);
+        }
+        *self = self.moved(moves, outcome != 0);
+        Ok(())
     }
 }

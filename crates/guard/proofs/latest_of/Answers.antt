@@ -4,16 +4,16 @@ use Rattle.guard.proofs.Latest.{followed_none, followed_one, followed_all}
 use Rattle.guard.proofs.latest_of.Goals as goal
 
 pub loop-i-init : goal.loop-i-init
-loop-i-init c = (omega arith, followed_none c.args.outcomes c.args.hit)
+loop-i-init c = followed_none c.args.outcomes c.args.hit
 
 pub loop-i-preserved : goal.loop-i-preserved
 loop-i-preserved c =
     let l = c.loop-i in
     let a = c.args in
-    (omega arith, followed_one a.outcomes a.hit l.after l.i (omega (arith, c.well_formed.0)) l.invariant.1)
+    followed_one a.outcomes a.hit l.after l.i (omega (arith, c.well_formed.0)) l.invariant
 
 pub returns : goal.returns
 returns c =
     let l = c.loop-i in
     let a = c.args in
-    followed_all a.outcomes a.hit l.after l.i (omega (arith, c.well_formed.0)) l.invariant.1
+    followed_all a.outcomes a.hit l.after l.i (omega (arith, c.well_formed.0)) l.invariant

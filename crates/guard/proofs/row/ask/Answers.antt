@@ -1,17 +1,21 @@
 -- `row::ask`: refused where the row has no such job, else what asking that job's guard gives. Assumes nothing.
-use mathlib.Core.Path.{refl, sym, subst}
+use mathlib.Core.Path.{subst}
 use Rattle.std.proofs.lemmas.List.{get_or_default}
+use Rattle.std.proofs.lemmas.Result.{err_from_is_err_and}
 use Rattle.guard.specs.Guard.{fresh, AskedAs}
 use Rattle.guard.proofs.RowCalls.{ask_outside, ask_inside}
 use Rattle.guard.proofs.row.ask.Goals as goal
 
-pub returns-then-refuses : goal.returns-then-refuses
-returns-then-refuses c =
+pub returns-in_err-test_job : goal.returns-in_err-test_job
+returns-in_err-test_job c =
     let a = c.args in
-    ask_outside a.row.now a.job a.table.now (sym c.if-refuses.ensures.0)
+    let (e, j) = c.in_err-test_job.ensures in
+    let p = err_from_is_err_and c.from_residual.result c.from_residual.ensures.1 in
+    rw (p.1, p.2, j) (ask_outside a.row.now a.job a.table.now e)
 
 pub returns : goal.returns
 returns c =
     let a = c.args in
-    ask_inside a.row.now a.job a.table.now (sym c.if-refuses.ensures.0) c.ask-asked.result
-    (subst (λ g. AskedAs a.table.now g c.ask-asked.result) (get_or_default a.row.now a.job _ fresh (c.if-refuses.ensures.1 refl).0) c.ask-asked.ensures)
+    let (e, l) = c.in_ok-test_job.ensures in
+    ask_inside a.row.now a.job a.table.now e c.ask.result
+    (subst (λ g. AskedAs a.table.now g c.ask.result) (get_or_default a.row.now a.job _ fresh l) c.ask.ensures)
