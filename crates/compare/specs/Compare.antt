@@ -1,5 +1,7 @@
 -- RULES, Covers, and What each entry tests, comparison: "as reading a set, for the first set and then for the second; a refusal says which of them, 1 or 2", and else "covers, with a pattern of length 0; or the first pattern between the sets".
-use Rattle.std.specs.Prelude.{◌≡◌, Bool, List, [], ◌++◌, map, ℕ, ◌-◌, length, replicate}
+use Rattle.std.specs.Prelude.{◌≡◌, Bool, List, [], ◌++◌, map, ℕ, ◌-◌, length, replicate, Option, None, Some, Result, Ok, Err}
+use Rattle.layout.specs.declared.Refused.{Refused}
+use Rattle.layout.specs.Refused.{number_of, beside}
 use Rattle.layout.specs.Refusal.{Tested, passed, refused, first}
 use Rattle.patterns.specs.Outcome.{bit}
 use Rattle.meaning.specs.declared.LimitSet.{LimitSet}
@@ -7,9 +9,8 @@ use Rattle.meaning.specs.Covers as covers
 use Rattle.sets.specs.Bytes.{set_of}
 use Rattle.sets.specs.Rows.{set_rows}
 use Rattle.compare.specs.declared.Pattern.{Pattern}
-use Rattle.compare.specs.declared.CompareAnswer.{CompareAnswer}
-use Rattle.compare.specs.declared.CompareAnswer.TheVariants.{Covers, Between, Refused}
-use Rattle.compare.specs.declared.Compared.{Compared}
+use Rattle.compare.specs.declared.RefusedSet.{RefusedSet}
+use Rattle.compare.specs.declared.RefusedSet.TheVariants.{First, Second}
 
 -- a pattern of at most 16 outcomes as it is returned
 abbrev pub packed : List Bool → Pattern
@@ -25,25 +26,34 @@ in_turn (refused n v) t = one_refused 1 n v
 in_turn passed (refused n v) = one_refused 2 n v
 in_turn passed passed = both_passed
 
-abbrev pub says : CompareAnswer → BothTested
-says Covers = both_passed
-says Between = both_passed
-says (Refused which number at) = one_refused which number at
+-- the set that is refused, and why
+abbrev pub which_of : RefusedSet → ℕ
+which_of (First why) = 1
+which_of (Second why) = 2
 
--- what an answer says of two sets, and the pattern beside it; "a pattern of length 0" where there is none
-abbrev pub Answers : LimitSet → LimitSet → CompareAnswer → Pattern → Type 0
-Answers a b Covers p = covers.Covers a b × (p ≡ packed [])
-Answers a b Between p = (q : List Bool) × covers.FirstBetween a b q × (p ≡ packed q)
-Answers a b (Refused which number at) p = p ≡ packed []
+abbrev pub why_of : RefusedSet → Refused
+why_of (First why) = why
+why_of (Second why) = why
 
-pub record ComparedAs (widest : ℕ) (first_set second_set : List ℕ) (r : Compared) : Type 0 where
-  pub refusal : says r.answer ≡ in_turn (first (set_rows widest first_set)) (first (set_rows widest second_set))
-  pub answer : Answers (set_of first_set) (set_of second_set) r.answer r.pattern
+abbrev pub says : Result (Option Pattern) RefusedSet → BothTested
+says (Ok p) = both_passed
+says (Err e) = one_refused (which_of e) (number_of (why_of e)) (beside (why_of e))
 
--- the same of two sets that have been read
-pub record Compares (a b : LimitSet) (r : Compared) : Type 0 where
-  pub accepted : says r.answer ≡ both_passed
-  pub answer : Answers a b r.answer r.pattern
+-- "a pattern of length 0" where there is none
+abbrev pub pattern_in : Result (Option Pattern) RefusedSet → Pattern
+pattern_in (Ok (Some p)) = p
+pattern_in (Ok None) = packed []
+pattern_in (Err e) = packed []
 
-abbrev pub refused_for : (which number at : ℕ) → Compared
-refused_for which number at = record { answer = Refused which number at; pattern = packed [] }
+-- what is said of two sets that have been read: the first covers the second, or the first pattern between them
+abbrev pub Compares : LimitSet → LimitSet → Option Pattern → Type 0
+Compares a b None = covers.Covers a b
+Compares a b (Some p) = (q : List Bool) × covers.FirstBetween a b q × (p ≡ packed q)
+
+abbrev pub Answers : LimitSet → LimitSet → Result (Option Pattern) RefusedSet → Type 0
+Answers a b (Ok p) = Compares a b p
+Answers a b (Err e) = Unit {0}
+
+pub record ComparedAs (widest : ℕ) (first_set second_set : List ℕ) (r : Result (Option Pattern) RefusedSet) : Type 0 where
+  pub refusal : says r ≡ in_turn (first (set_rows widest first_set)) (first (set_rows widest second_set))
+  pub answer : Answers (set_of first_set) (set_of second_set) r
