@@ -1,6 +1,6 @@
 -- What a turn of each loop does to the definition that the loop computes: of a list from limit i on, its first limit comes off, or one more is put on. Assumes nothing.
 use mathlib.Core.Path.{◌≡◌, refl, sym, ap, ap₂, ◌∙◌}
-use mathlib.Core.Bool.{Bool, true, false, cond, ◌&&◌}
+use mathlib.Core.Bool.{Bool, cond, ◌&&◌, and_comm}
 use mathlib.Core.List.{List, [], ◌∷◌, ◌++◌, append_assoc, append-nil}
 use Prim.Native.Nat.{ℕ, zero, suc, ◌+◌, ◌-◌, ◌*◌, ◌≤◌, ◌<◌}
 use native.Mathlib.Numerals.{add-one}
@@ -39,22 +39,13 @@ module _ (w : ℕ) (s : LimitSet) (i c : ℕ) where
   unfolding limits_rows first
   limits_end h = let g : c - i ≡ zero = omega arith in rw g
 
--- whether one limit, and those before it, are idle
-pub broken_before : (a b : Bool) → b ≡ false → false ≡ (a && b)
-broken_before true b e = sym e
-broken_before false b e = refl
-
-pub as_this_one : (a b r : Bool) → b ≡ true → a ≡ r → r ≡ (a && b)
-as_this_one true b r e f = sym f ∙ sym e
-as_this_one false b r e f = sym f
-
--- whether the first i limits are
+-- whether the first i limits can't be broken
 module _ (s : LimitSet) where
   abbrev pub idle_to : ℕ → Bool
   idle_to i = every i (λ j. idle (rule_at s j))
 
-  pub idle_turn : (i : ℕ) (before now : Bool) → before ≡ idle_to i → now ≡ (idle (rule_at s i) && before) → now ≡ idle_to (i + 1)
-  idle_turn i before now e f = f ∙ ap (λ b. idle (rule_at s i) && b) e ∙ ap idle_to (sym (add-one i))
+  pub idle_turn : (i : ℕ) (before this : Bool) → before ≡ idle_to i → this ≡ idle (rule_at s i) → (before && this) ≡ idle_to (i + 1)
+  idle_turn i before this e f = and_comm before this ∙ ap₂ ◌&&◌ f e ∙ ap idle_to (sym (add-one i))
 
   -- past the last limit: where the rows of all limits are passed, 21 decides
   pub tests_end : (w i : ℕ) (all : Bool) → i ≡ s.count → first (limits_rows w s 0 s.count) ≡ first (limits_rows w s i (s.count - i)) → all ≡ idle_to i → first (test_rows w s) ≡ cond all (refused 21 0) passed

@@ -15,7 +15,7 @@ ghost use Rattle.sets.specs.Read.{ReadAs};
 mod write;
 
 use layout::{HeadFault, Refused};
-use meaning::{Limit, LimitSet};
+use meaning::{Kind, Limit, LimitSet};
 pub use write::write_set;
 
 // Tests the numbers of the limit that stands at place `i` of its set.
@@ -23,13 +23,12 @@ pub use write::write_set;
 fn test_limit(limit: Limit, widest: u8, i: usize) -> Result<(), Refused>
     ensures { says result ≡ first (limit_rows widest limit i) }
 {
-    let kind = limit.kind;
+    let Ok(kind) = Kind::try_from(limit.kind) else {
+        return Err(Refused::LimitKind { limit: i });
+    };
     let x = limit.x;
     let k = limit.k;
-    if 3 < kind {
-        return Err(Refused::LimitKind { limit: i });
-    }
-    if kind == 3 {
+    if kind == Kind::RowMiss {
         if k != 0 {
             return Err(Refused::LimitK { limit: i });
         }
@@ -53,23 +52,15 @@ fn test_limit(limit: Limit, widest: u8, i: usize) -> Result<(), Refused>
     Ok(())
 }
 
-// Whether a limit with allowed numbers can't be broken, and those before it can't.
-fn still_idle(before: bool, limit: Limit) -> bool
-    ensures { result ≡ (idle (rule_of limit) && before) }
+// Whether a limit with allowed numbers can't be broken.
+fn is_idle(limit: Limit) -> bool
+    ensures { result ≡ idle (rule_of limit) }
 {
-    let kind = limit.kind;
-    let x = limit.x;
-    let k = limit.k;
-    if !before {
-        return false;
+    match limit.rule_kind() {
+        Kind::AnyHit | Kind::RowHit => limit.x == 0,
+        Kind::AnyMiss => limit.k <= limit.x,
+        Kind::RowMiss => false,
     }
-    if kind < 2 {
-        return x == 0;
-    }
-    if kind == 2 {
-        return k <= x;
-    }
-    false
 }
 
 // RULES, What each entry tests: "limit after limit, each for 5, 6 and 7; then 21".
@@ -81,7 +72,7 @@ fn test_limits(set: LimitSet, widest: u8) -> Result<(), Refused>
     for i in 0..set.count {
         let limit = set.limits[i];
         test_limit(limit, widest, i)?;
-        nothing = still_idle(nothing, limit);
+        nothing &= is_idle(limit);
     }
     if nothing {
         return Err(Refused::LimitsNothing);
@@ -113,16 +104,12 @@ fn test_head(bytes: &[u8]) -> Result<(), Refused>
 }
 
 // The limits that the bytes hold, as they are.
+#[tactic(auto, unfolding(crate::specs::Bytes::limits_in))]
 fn take_limits(bytes: &[u8], count: usize) -> LimitSet
     requires { (count ≡ count_of bytes.now) × (count ≤ 8) × (6 + 3 * count ≤ length bytes.now) }
     ensures { result ≡ set_of bytes.now }
 {
-    let none = Limit {
-        kind: 0,
-        x: 0,
-        k: 0,
-    };
-    let mut limits = [none; 8];
+    let mut limits = [Limit::default(); 8];
     for i in 0..count {
         let at = 6 + 3 * i;
         limits[i] = Limit {

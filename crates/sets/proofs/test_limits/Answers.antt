@@ -19,7 +19,7 @@ pub loop-i-preserved : goal.loop-i-preserved
 loop-i-preserved c =
     let s = c.args in (
       c.loop-i.invariant.0 ∙ limits_passed s.widest s.set c.loop-i.i s.set.count (omega arith) (sym c.in_ok-test_limit.ensures),
-      idle_turn s.set c.loop-i.i c.loop-i.nothing _ c.loop-i.invariant.1 c.still_idle-nothing.ensures,
+      idle_turn s.set c.loop-i.i c.loop-i.nothing _ c.loop-i.invariant.1 c.is_idle-nothing.ensures,
     )
 
 pub returns-then-nothing : goal.returns-then-nothing
