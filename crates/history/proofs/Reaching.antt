@@ -1,5 +1,5 @@
 -- The earliest window that a miss breaks. Of all but RowHit it is the one that the miss ends; under RowHit it has as many outcomes before the miss as are without a row, since the hits after the miss are too few for one. Assumes nothing.
-use mathlib.Core.Path.{◌≡◌, refl, sym, ap, ◌∙◌, subst}
+use mathlib.Core.Path.{◌≡◌, refl, sym, ap, ◌∙◌}
 use mathlib.Core.Logic.{dite}
 use mathlib.Core.Bool.{true, false, false≢true}
 use mathlib.Core.List.{[], ◌∷◌, ◌++◌, reverse, reverse-cons, reverse-append, append_assoc}
@@ -9,14 +9,15 @@ use native.Mathlib.Omega.{arith}
 use borrow.Author.Tests.{leb-false}
 use lib.Dec.{leb}
 use lib.ListN.{length, replicate, length-append, length-replicate, length-reverse}
-use Rattle.meaning.specs.declared.Limit.{Limit}
-use Rattle.meaning.specs.Limit.{any_hit, row_hit, Allowed, RuleAllowed, rule_from, rule_of, width}
+use Rattle.meaning.specs.declared.Kind.{Kind}
+use Rattle.meaning.specs.declared.Kind.TheVariants.{AnyHit, RowHit, AnyMiss, RowMiss}
+use Rattle.meaning.specs.Limit.{any_hit, row_hit, RuleAllowed, width}
+use Rattle.meaning.specs.KindOf.{rule_with}
 use Rattle.meaning.specs.Holds.{hits, Holds}
 use Rattle.meaning.specs.Test.{has_run}
 use Rattle.meaning.proofs.Decide.{T_of, T_true, run_iff}
 use Rattle.meaning.proofs.MissMore.{hits_append, hits_replicate, run_after}
 use Rattle.meaning.proofs.TwoKinds.{any_miss_hit, row_miss_hit}
-use Rattle.meaning.proofs.Widths.{allowed_numbers}
 use Rattle.history.specs.History.{newest}
 use Rattle.history.specs.MayMiss.{may_miss_under}
 use Rattle.history.specs.Reaches.{over_miss, Reaches}
@@ -54,15 +55,15 @@ row_over x k n h l =
     ∙ run_after_misses x 1 (newest n h)
 
 -- RowHit(x, k), where n is the most outcomes that are without a row
-row_farthest : (x k h n : ℕ) → 1 ≤ k → x ≤ k → has_run x (newest (k - x) h) ≡ false
-    → has_run x (newest n h) ≡ false → ((a : ℕ) → n < a → a ≤ k - 1 → has_run x (newest a h) ≡ true) → n ≤ k - 1 → Reaches (row_hit x k) h n
-row_farthest x k h n wide fits blocked none later short =
+pub row_reaches : (w x k h n : ℕ) → RuleAllowed w (row_hit x k) → may_miss_under (row_hit x k) h ≡ false
+    → (n ≤ k - 1) × (has_run x (newest n h) ≡ false) × ((a : ℕ) → n < a → a ≤ k - 1 → has_run x (newest a h) ≡ true) → Reaches (row_hit x k) h n
+row_reaches w x k h n ok blocked (short, none, later) =
     let some : 0 < x = row_some x (newest (k - x) h) blocked in
-    let far : k - x ≤ n = dite (dec_lt n (k - x)) (λ l. absurd (false≢true (sym blocked ∙ later (k - x) l (omega arith)))) (λ l. omega arith) in
+    let far : k - x ≤ n = dite (dec_lt n (k - x)) (λ l. absurd (false≢true (sym blocked ∙ later (k - x) l (omega (arith, ok))))) (λ l. omega arith) in
     record {
-      within = omega arith;
+      within = omega (arith, ok);
       broken = λ r. false≢true (sym none ∙ sym (row_over x k n h (omega arith)) ∙ T_true _ ((run_iff x (over_miss k n h)).1 r));
-      farthest = λ a l m. run_after x (reverse (newest a h)) _ (run_reverse x (newest a h) ((run_iff x (newest a h)).0 (T_of _ (later a (omega arith) (omega arith)))));
+      farthest = λ a l m. run_after x (reverse (newest a h)) _ (run_reverse x (newest a h) ((run_iff x (newest a h)).0 (T_of _ (later a l (omega arith)))));
     }
 
 -- every other kind, where the n outcomes and the miss are the window
@@ -71,30 +72,17 @@ any_broken x k h n e blocked m =
     let last : k - 1 ≡ n = omega arith in
     omega (arith, leb-false x (hits (newest (k - 1) h)) blocked, hits_over k n h, ap (λ z. hits (newest z h)) last)
 
-end_broken : (w kind x k h n : ℕ) → RuleAllowed w (rule_from kind x k) → may_miss_under (rule_from kind x k) h ≡ false → (kind ≡ 1 → ⊥)
-    → n + 1 ≡ width (rule_from kind x k) → Holds (rule_from kind x k) (over_miss (width (rule_from kind x k)) n h) → ⊥
-end_broken w zero x k h n ok blocked d e m = any_broken x k h n e blocked m
-end_broken w (suc zero) x k h n ok blocked d e m = d refl
-end_broken w (suc (suc zero)) x k h n ok blocked d e m =
-    any_broken (k - x) k h n e blocked ((any_miss_hit x k (over_miss k n h) ok.2 (length_over k n h (omega arith))).0 m)
-end_broken w (suc (suc (suc kind))) x k h n ok blocked d e m = any_broken 1 x h n e blocked ((row_miss_hit x (over_miss x n h)).0 m)
+end_broken : (w : ℕ) (kind : Kind) (x k h n : ℕ) → (kind ≡ RowHit → ⊥) → RuleAllowed w (rule_with kind x k) → may_miss_under (rule_with kind x k) h ≡ false
+    → n + 1 ≡ width (rule_with kind x k) → Holds (rule_with kind x k) (over_miss (width (rule_with kind x k)) n h) → ⊥
+end_broken w AnyHit x k h n d ok blocked e m = any_broken x k h n e blocked m
+end_broken w RowHit x k h n d ok blocked e m = d refl
+end_broken w AnyMiss x k h n d ok blocked e m = any_broken (k - x) k h n e blocked ((any_miss_hit x k (over_miss k n h) ok.2 (length_over k n h (omega arith))).0 m)
+end_broken w RowMiss x k h n d ok blocked e m = any_broken 1 x h n e blocked ((row_miss_hit x (over_miss x n h)).0 m)
 
-module _ (w : ℕ) (l : Limit) (h : ℕ) (ok : Allowed w l) (blocked : may_miss_under (rule_of l) h ≡ false) where
-  row_blocked : l.kind ≡ 1 → has_run l.x (newest (l.k - l.x) h) ≡ false
-  row_blocked e = ap (λ kind. may_miss_under (rule_from kind l.x l.k) h) (sym e) ∙ blocked
-
-  pub row_hits : l.kind ≡ 1 → 0 < l.x
-  row_hits e = row_some l.x (newest (l.k - l.x) h) (row_blocked e)
-
-  pub row_reaches : (n : ℕ) → l.kind ≡ 1 → has_run l.x (newest n h) ≡ false → ((a : ℕ) → n < a → a ≤ l.k - 1 → has_run l.x (newest a h) ≡ true) → n ≤ l.k - 1
-      → Reaches (rule_of l) h n
-  row_reaches n e none later short =
-      let (wide, most, fits) = allowed_numbers w l ok (omega arith) in
-      subst (λ kind. Reaches (rule_from kind l.x l.k) h n) (sym e) (row_farthest l.x l.k h n wide fits (row_blocked e) none later short)
-
-  pub end_reaches : (n : ℕ) → (l.kind ≡ 1 → ⊥) → n + 1 ≡ width (rule_of l) → Reaches (rule_of l) h n
-  end_reaches n d e = record {
-    within = omega arith;
-    broken = end_broken w l.kind l.x l.k h n ok.rule_allowed blocked d e;
-    farthest = λ a f g. absurd (omega arith);
-  }
+pub end_reaches : (w : ℕ) (kind : Kind) (x k h n : ℕ) → (kind ≡ RowHit → ⊥) → RuleAllowed w (rule_with kind x k) → may_miss_under (rule_with kind x k) h ≡ false
+    → n + 1 ≡ width (rule_with kind x k) → Reaches (rule_with kind x k) h n
+end_reaches w kind x k h n d ok blocked e = record {
+  within = omega arith;
+  broken = end_broken w kind x k h n d ok blocked e;
+  farthest = λ a f g. absurd (omega arith);
+}

@@ -1,6 +1,6 @@
 -- Whether a miss may follow. RULES, Easy ways to go wrong: "What counts is whether hits after the miss can still mend it."
 -- A question of the newest outcomes alone, and never of the pattern before them.
-use Rattle.std.specs.Prelude.{◌≡◌, Bool, true, false, ℕ, ◌-◌, ◌≤◌, ◌<◌, leb}
+use Rattle.std.specs.Prelude.{◌≡◌, Bool, true, false, ℕ, ◌-◌, ◌≤◌, ◌<◌, leb, Option, Some, None}
 use Rattle.meaning.specs.declared.LimitSet.{LimitSet}
 use Rattle.meaning.specs.Limit.{Rule, any_hit, row_hit, any_miss, row_miss}
 use Rattle.meaning.specs.Holds.{hits}
@@ -24,3 +24,8 @@ pub record Blocks (s : LimitSet) (h i : ℕ) : Type 0 where
   pub within : i ≤ s.count
   pub before : (j : ℕ) → j < i → may_miss_under (rule_at s j) h ≡ true
   pub here : i < s.count → may_miss_under (rule_at s i) h ≡ false
+
+-- the lowest-numbered limit under which a miss can't follow, where there is one
+abbrev pub BlockedBy : LimitSet → (h : ℕ) → Option ℕ → Type 0
+BlockedBy s h (Some i) = Blocks s h i × (i < s.count)
+BlockedBy s h None = Blocks s h s.count

@@ -1,6 +1,7 @@
 // The history machine of a set: its state is the last outcomes in a number, the newest in the low bit.
 // A hit is always possible; whether a miss is, this crate says from the history alone, limit by limit.
 // How long a history has to be, `reach` says for a limit and `length_for` for a set, and how far back the earliest window begins that a miss breaks, `broken_reach`.
+// C hands over limits and sets as they are, so that their numbers are allowed is asked for in the contracts and is no part of the types.
 #![tactic(auto)]
 
 ghost use Rattle.std.specs.Prelude.{◌≡◌, true, false, cond, ℕ, ◌+◌, ◌-◌, ◌%◌, ◌^◌, ◌≤◌, ◌<◌, leb};
@@ -10,11 +11,11 @@ ghost use Rattle.meaning.specs.Holds.{hits};
 ghost use Rattle.meaning.specs.Sets.{SetAllowed};
 ghost use Rattle.meaning.specs.Test.{has_run};
 ghost use Rattle.history.specs.History.{shifted, newest};
-ghost use Rattle.history.specs.MayMiss.{may_miss_under, may_miss, Blocks};
+ghost use Rattle.history.specs.MayMiss.{may_miss_under, may_miss, BlockedBy};
 ghost use Rattle.history.specs.Reaches.{Reaches};
 ghost use Rattle.history.specs.Length.{LongEnough, Histories};
 
-use meaning::{Limit, LimitSet};
+use meaning::{Kind, Limit, LimitSet};
 
 // The history in which every outcome is a hit, at the library's longest window.
 pub const ALL_HITS: u16 = (1 << (meaning::LONGEST_WINDOW - 1)) - 1;
@@ -27,7 +28,7 @@ pub fn push(history: u16, hit: bool, mask: u16) -> u16
     ((history << 1) | (hit as u16)) & mask
 }
 
-// The same where histories are indices, and n is how many there are.
+// The same where histories are indices, and n is how many there are: one call of `push`, and no second form of it.
 pub fn push_index(history: usize, hit: bool, n: usize) -> usize
     requires { (history < n) × (n ≤ 32768) }
     ensures { (result ≡ shifted (n - 1) history hit) × (result < n) }
@@ -35,44 +36,51 @@ pub fn push_index(history: usize, hit: bool, n: usize) -> usize
     push(history as u16, hit, (n - 1) as u16) as usize
 }
 
-// The newest n outcomes, and nothing above them.
-fn newest_bits(history: u16, n: u8) -> u32
-    requires { n < 32 } // what a shift of a u32 takes
-    ensures { result ≡ history % 2 ^ n }
-{
-    history as u32 & ((1 << n) - 1)
+// The newest n outcomes of a history.
+#[derive(Clone, Copy)]
+struct Latest {
+    history: u16,
+    n: u8,
+    ghost fits: { n < 32 }, // what a shift of a u32 takes
 }
 
-// How many of the newest n outcomes are hits.
-fn hits_among(history: u16, n: u8) -> u32
-    requires { n < 32 }
-    ensures { result ≡ hits (newest n history) }
-{
-    u32::count_ones(newest_bits(history, n))
-}
-
-// Whether x hits stand in a row among the newest n outcomes: a step for each run of hits, the newest first.
-fn row_among(history: u16, n: u8, x: u8) -> bool
-    requires { n < 32 }
-    ensures { result ≡ has_run x (newest n history) }
-{
-    let mut rest = newest_bits(history, n);
-    while rest != 0 {
-        let from_hit = rest >> u32::trailing_zeros(rest);
-        let run = u32::trailing_zeros(!from_hit);
-        if x as u32 <= run {
-            return true;
-        }
-        rest = from_hit >> run;
+impl Latest {
+    // These outcomes, and nothing above them.
+    fn bits(self) -> u32
+        ensures { result ≡ self.history % 2 ^ self.n }
+    {
+        self.history as u32 & ((1 << self.n) - 1)
     }
-    x == 0
-}
 
-fn enough_hits(history: u16, n: u8, x: u8) -> bool
-    requires { n < 32 }
-    ensures { result ≡ leb x (hits (newest n history)) }
-{
-    x as u32 <= hits_among(history, n)
+    // How many of them are hits.
+    fn hits(self) -> u32
+        ensures { result ≡ hits (newest self.n self.history) }
+    {
+        u32::count_ones(self.bits())
+    }
+
+    // Whether x of them are hits.
+    fn has_hits(self, x: u8) -> bool
+        ensures { result ≡ leb x (hits (newest self.n self.history)) }
+    {
+        x as u32 <= self.hits()
+    }
+
+    // Whether x hits stand in a row among them: a step for each run of hits, the newest first.
+    fn has_row(self, x: u8) -> bool
+        ensures { result ≡ has_run x (newest self.n self.history) }
+    {
+        let mut rest = self.bits();
+        while rest != 0 {
+            let from_hit = rest >> u32::trailing_zeros(rest);
+            let run = u32::trailing_zeros(!from_hit);
+            if x as u32 <= run {
+                return true;
+            }
+            rest = from_hit >> run;
+        }
+        x == 0
+    }
 }
 
 // Whether a miss can follow under one limit.
@@ -80,36 +88,28 @@ pub fn limit_may_miss(limit: Limit, history: u16) -> bool
     requires { Allowed longest limit }
     ensures { result ≡ may_miss_under (rule_of limit) history }
 {
-    let kind = limit.kind;
     let x = limit.x;
     let k = limit.k;
-    if kind == 0 {
-        return enough_hits(history, k - 1, x);
+    match limit.rule_kind() {
+        Kind::AnyHit => Latest { history, n: k - 1 }.has_hits(x),
+        Kind::RowHit => Latest { history, n: k - x }.has_row(x),
+        Kind::AnyMiss => Latest { history, n: k - 1 }.has_hits(k - x),
+        Kind::RowMiss => Latest { history, n: x - 1 }.has_hits(1),
     }
-    if kind == 1 {
-        return row_among(history, k - x, x);
-    }
-    if kind == 2 {
-        return enough_hits(history, k - 1, k - x);
-    }
-    enough_hits(history, x - 1, 1)
 }
 
-// The lowest-numbered limit under which a miss can't follow, or the count of limits where there is none.
-pub fn blocking_limit(set: LimitSet, history: u16) -> usize
+// The lowest-numbered limit under which a miss can't follow, where there is one. Inlined it would copy the set at each call.
+#[inline(never)]
+pub fn blocking_limit(set: LimitSet, history: u16) -> Option<usize>
     requires { SetAllowed longest set }
-    ensures { Blocks set history result }
+    ensures { BlockedBy set history result }
 {
-    let count = set.count;
-    let mut i = 0;
-    while i < count {
-        let limit = set.limits[i];
-        if !limit_may_miss(limit, history) {
-            return i;
+    for i in 0..set.count {
+        if !limit_may_miss(set.limits[i], history) {
+            return Some(i);
         }
-        i += 1;
     }
-    i
+    None
 }
 
 // Whether a miss can follow under every limit of the set.
@@ -117,8 +117,7 @@ pub fn may_miss(set: LimitSet, history: u16) -> bool
     requires { SetAllowed longest set }
     ensures { result ≡ may_miss set history }
 {
-    let count = set.count;
-    blocking_limit(set, history) == count
+    blocking_limit(set, history).is_none()
 }
 
 // How many outcomes before a job lie in one window with it.
@@ -126,11 +125,10 @@ pub fn reach(limit: Limit) -> usize
     requires { Allowed longest limit }
     ensures { result + 1 ≡ width (rule_of limit) }
 {
-    let kind = limit.kind;
-    if kind == 3 {
-        return (limit.x - 1) as usize;
+    match limit.rule_kind() {
+        Kind::AnyHit | Kind::RowHit | Kind::AnyMiss => (limit.k - 1) as usize,
+        Kind::RowMiss => (limit.x - 1) as usize,
     }
-    (limit.k - 1) as usize
 }
 
 // The length of histories that the set's own widest window asks for.
@@ -138,16 +136,9 @@ pub fn length_for(set: LimitSet) -> usize
     requires { SetAllowed longest set }
     ensures { LongEnough set result }
 {
-    let count = set.count;
     let mut length = 0;
-    let mut at = 0;
-    while at < count {
-        let limit = set.limits[at];
-        let asked = reach(limit);
-        if length < asked {
-            length = asked;
-        }
-        at += 1;
+    for limit in &set.limits[..set.count] {
+        length = length.max(reach(*limit));
     }
     length
 }
@@ -178,16 +169,14 @@ fn before_row(history: u16, n: u8, x: u8) -> u8
 {
     let mut rest = history;
     let mut run = 0;
-    let mut passed = 0;
-    while passed < n {
+    for passed in 0..n {
         run = next_run(run, rest % 2 == 1);
         if x <= run {
             return passed;
         }
         rest /= 2;
-        passed += 1;
     }
-    passed
+    n
 }
 
 // How many outcomes before a miss that can't follow lie in the earliest window that it breaks.
@@ -195,10 +184,8 @@ pub fn broken_reach(limit: Limit, history: u16) -> usize
     requires { Allowed longest limit × (may_miss_under (rule_of limit) history ≡ false) }
     ensures { Reaches (rule_of limit) history result }
 {
-    let x = limit.x;
-    let k = limit.k;
-    if limit.kind == 1 {
-        return before_row(history, k - 1, x) as usize;
+    match limit.rule_kind() {
+        Kind::RowHit => before_row(history, limit.k - 1, limit.x) as usize,
+        _ => reach(limit),
     }
-    reach(limit)
 }

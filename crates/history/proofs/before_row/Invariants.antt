@@ -1,10 +1,7 @@
--- `history::before_row`: at each turn's start the run has fewer than x hits, so that no row is passed; the outcome that makes them x is in a row. Each turn passes one outcome, so that there are no more turns than n. Assumes nothing.
-use Prim.Native.Nat.{◌-◌, ◌≤◌, ◌<◌}
+-- `history::before_row`: at each turn's start the run has fewer than x hits, so that no row is passed; the outcome that makes them x is in a row. Assumes nothing.
+use Prim.Native.Nat.{◌<◌}
 use Rattle.history.proofs.Passed.{Passed}
 use Rattle.history.proofs.before_row.Given as goal
 
 abbrev pub invariant-loop-passed : goal.invariant-loop-passed
-invariant-loop-passed l = (l.passed ≤ l.n) × (l.run < l.x) × Passed l.x l.history l.passed l.rest l.run
-
-abbrev pub decreases-loop-passed : goal.decreases-loop-passed
-decreases-loop-passed l = l.n - l.passed
+invariant-loop-passed l = (l.run < l.x) × Passed l.x l.history l.passed l.rest l.run

@@ -1,14 +1,10 @@
 -- `history::blocking_limit`: no limit that was passed blocks. Assumes nothing.
 use mathlib.Core.Path.{◌≡◌}
 use mathlib.Core.Bool.{true}
-use Prim.Native.Nat.{ℕ, ◌≤◌, ◌<◌, ◌-◌}
+use Prim.Native.Nat.{ℕ, ◌<◌}
 use Rattle.meaning.specs.Sets.{rule_at}
 use Rattle.history.specs.MayMiss.{may_miss_under}
 use Rattle.history.proofs.blocking_limit.Given as goal
 
 abbrev pub invariant-loop-i : goal.invariant-loop-i
-invariant-loop-i l =
-    (l.i ≤ l.count) × ((j : ℕ) → j < l.i → may_miss_under (rule_at l.set j) l.history ≡ true)
-
-abbrev pub decreases-loop-i : goal.decreases-loop-i
-decreases-loop-i l = l.count - l.i
+invariant-loop-i l = (j : ℕ) → j < l.i → may_miss_under (rule_at l.set j) l.history ≡ true

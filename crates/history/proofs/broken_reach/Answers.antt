@@ -1,22 +1,20 @@
 -- `history::broken_reach`: under RowHit what `before_row` ensures, and under every other kind what `reach` does. Assumes nothing.
-use native.Mathlib.Omega.{arith}
 use Rattle.meaning.specs.Longest.{longest}
-use Rattle.meaning.proofs.Widths.{allowed_numbers}
-use Rattle.history.proofs.Reaching.{row_hits, row_reaches, end_reaches}
+use Rattle.history.proofs.Reaching.{row_reaches, end_reaches}
+use Rattle.history.proofs.Runs.{row_some}
 use Rattle.history.proofs.broken_reach.Goals as goal
 
-pub overflow_sub-k : goal.overflow_sub-k
-overflow_sub-k c = omega (arith, allowed_numbers longest c.args.limit c.requires.0 (omega arith))
-
 pub before_row-requires : goal.before_row-requires
-before_row-requires c =
-    omega (arith, row_hits longest c.args.limit c.args.history c.requires.0 c.requires.1 c.if-limit-eq1.true)
+before_row-requires c = row_some _ _ (rw c.in-RowHit.ensures at c.requires.1)
 
-pub returns-then-limit-eq1 : goal.returns-then-limit-eq1
-returns-then-limit-eq1 c =
-    let (short, none, later) = c.before_row.ensures in
-    row_reaches longest c.args.limit c.args.history c.requires.0 c.requires.1 c.before_row.result c.if-limit-eq1.true none (λ a f g. later a f (omega arith)) (omega arith)
+pub returns-in-RowHit : goal.returns-in-RowHit
+returns-in-RowHit c =
+    let l = c.args.limit in
+    let e = c.in-RowHit.ensures in
+    rw e (row_reaches longest l.x l.k c.args.history c.before_row.result (rw e at c.requires.0.rule_allowed) (rw e at c.requires.1) c.before_row.ensures)
 
-pub returns : goal.returns
-returns c =
-    end_reaches longest c.args.limit c.args.history c.requires.0 c.requires.1 c.reach.result c.if-limit-eq1.false c.reach.ensures
+pub returns-in_default : goal.returns-in_default
+returns-in_default c =
+    let l = c.args.limit in
+    let e = c.rule_kind.ensures in
+    rw e (end_reaches longest c.rule_kind.result l.x l.k c.args.history c.reach.result c.in_default.not-RowHit (rw e at c.requires.0.rule_allowed) (rw e at c.requires.1) (rw e at c.reach.ensures))

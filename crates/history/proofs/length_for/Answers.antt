@@ -1,36 +1,24 @@
 -- `history::length_for`: the limits passed ask for no more than the length so far. Assumes nothing.
-use Prim.Native.Nat.{ℕ, suc, ◌≤◌}
+use mathlib.Core.Path.{◌≡◌, ap, ◌∙◌}
+use Prim.Native.Nat.{◌+◌, ◌<◌}
 use native.Mathlib.Omega.{arith}
 use borrow.Author.Count.{below_more}
-use Rattle.meaning.specs.Longest.{longest}
-use Rattle.meaning.specs.Limit.{width}
-use Rattle.meaning.specs.Sets.{SetAllowed, rule_at}
-use Rattle.meaning.proofs.Widths.{width_allowed, set_narrower, some_window}
+use Rattle.std.proofs.Common.{rules}
+use Rattle.std.specs.Prelude.{max}
+use Rattle.std.proofs.lemmas.List.{get_or-take, length-take}
+use Rattle.meaning.specs.Limit.{rule_of, width}
+use Rattle.meaning.specs.Sets.{zero_limit, rule_at}
+use Rattle.meaning.proofs.Widths.{width_allowed}
 use Rattle.history.proofs.length_for.Goals as goal
-use Rattle.history.proofs.length_for.Goals.{then-length-asked, else-length-asked}
 
-pub loop-at-init : goal.loop-at-init
-loop-at-init c = (omega arith, (λ w a. omega (arith, some_window w c.args.set a)), λ j l. absurd (omega arith))
-
-pub reach-asked-requires : goal.reach-asked-requires
-reach-asked-requires c = c.requires.each c.loop-at.at c.loop-at-test.true
-
-pub loop-at-preserved : goal.loop-at-preserved
-loop-at-preserved c =
-    let l = c.loop-at in
-    let t = c.loop-at-test.true in
-    let r = c.reach-asked.ensures in
-    let narrow : (w : ℕ) → SetAllowed w c.args.set → width (rule_at c.args.set l.at) ≤ w =
-    λ w a. (width_allowed w (rule_at c.args.set l.at) (a.each l.at t).rule_allowed).1 in
-    elim c.if-length-asked.branch [
-      | then-length-asked w ↦ (omega arith, (λ v a. omega (arith, narrow v a)), below_more _ _ (λ j h. let g = l.invariant.2 j h in omega arith) (omega arith))
-      | else-length-asked w ↦ (omega arith, (λ v a. omega (arith, l.invariant.1 v a)), below_more _ _ (λ j h. let g = l.invariant.2 j h in omega arith) (omega arith))
-    ]
-
-pub returns : goal.returns
-returns c =
-    let l = c.loop-at in
-    record {
-      short = l.invariant.1;
-      enough = set_narrower longest (suc l.length) c.args.set c.requires (λ i h. l.invariant.2 i (omega arith));
-    }
+pub loop-limit-preserved : goal.loop-limit-preserved
+loop-limit-preserved c =
+    let s = c.args.set in
+    let l = c.loop-limit in
+    let i = l.limit-index in
+    let here : i < s.count = omega (arith, c.loop-limit-test.true, length-take s.count s.limits) in
+    let asked : c.reach.result + 1 ≡ width (rule_at s i) = c.reach.ensures ∙ ap (λ z. width (rule_of z)) (get_or-take s.count s.limits i zero_limit here) in
+    let longer : c.max-length.result ≡ max l.length c.reach.result = search rules in (
+      λ w a. omega (arith, l.invariant.0 w a, asked, longer, (width_allowed w (rule_at s i) (a.each i here).rule_allowed).1),
+      below_more _ _ (λ j h. omega (arith, l.invariant.1 j h, longer)) (omega (arith, asked, longer)),
+    )
