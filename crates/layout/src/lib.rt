@@ -102,10 +102,7 @@ pub fn four_at(bytes: &[u8], at: usize) -> usize
     requires { at + 4 ≤ length bytes.now }
     ensures { (result ≡ four_at bytes.now at) × (result < 4294967296) }
 {
-    wide(bytes[at]) * 16777216
-        + wide(bytes[at + 1]) * 65536
-        + wide(bytes[at + 2]) * 256
-        + wide(bytes[at + 3])
+    u32::from_be_bytes([bytes[at], bytes[at + 1], bytes[at + 2], bytes[at + 3]]) as usize
 }
 
 // The number that eight bytes write, the highest first.
@@ -148,10 +145,7 @@ pub fn put_four(out: &mut [u8], at: usize, n: usize)
     requires { (at + 4 ≤ length out.old) × (n < 4294967296) }
     ensures { out.new ≡ take at out.old ++ four_bytes n ++ drop (at + 4) out.old }
 {
-    out[at] = (n / 16777216) as u8;
-    out[at + 1] = (n / 65536 % 256) as u8;
-    out[at + 2] = (n / 256 % 256) as u8;
-    out[at + 3] = (n % 256) as u8;
+    out[at..at + 4].copy_from_slice(&(n as u32).to_be_bytes());
 }
 
 // Writes a number as eight bytes, the highest first.
