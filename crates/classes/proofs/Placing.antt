@@ -1,12 +1,13 @@
 -- The stores of a round: none has a class before the first, h has one after its own, and after all of them each class is the least history of its signature. Assumes nothing.
 use mathlib.Core.Path.{◌≡◌, sym, ap, ◌∙◌, subst}
+use Rattle.std.specs.Prelude.{None}
 use mathlib.Core.List.{List}
-use Prim.Native.Nat.{ℕ, ◌+◌, ◌*◌, ◌≤◌, ◌<◌}
+use Prim.Native.Nat.{ℕ, ◌+◌, ◌*◌, ◌<◌}
 use native.Mathlib.Omega.{arith}
 use lib.ListN.{get_or, set}
 use lib.Seq.{get_or-set_same, get_or-set_other}
 use Rattle.classes.specs.Signature.{sig, bucket}
-use Rattle.classes.specs.Chain.{new_class, head, link, bucket_of, Room, Grouped, Placed, Found, Kept, Rounded}
+use Rattle.classes.specs.Chain.{new_class, head, link, bucket_of, Room, Grouped, Placed, Joins, Found, Kept, Rounded}
 use Rattle.classes.proofs.Keeping.{kept_trans, kept_set, room_kept}
 use Rattle.classes.proofs.Signatures.{sig_first, bucket_lt}
 use Rattle.classes.proofs.Grow.{grouped_joined, grouped_alone, chained_joined, chained_alone}
@@ -28,19 +29,20 @@ placed_none n w R empty = record {
   };
 }
 
-module _ (w : List ℕ) (n h s r : ℕ) (P : Placed w n h) (hn : h < n) (es : s ≡ sig w n h) (F : Found w n h s r) where
-  abbrev w₁ : List ℕ
-  w₁ = set w (n + h) r
+module _ (w : List ℕ) (n h s : ℕ) (P : Placed w n h) (hn : h < n) (es : s ≡ sig w n h) where
+  abbrev classed : ℕ → List ℕ
+  classed r = set w (n + h) r
 
-  pub placed_joined : r < h → Placed w₁ n (h + 1) × Kept n w w₁
-  placed_joined l =
+  pub placed_joined : (r : ℕ) → Joins w n h s r → Placed (classed r) n (h + 1) × Kept n w (classed r)
+  placed_joined r J =
+      let w₁ = classed r in
       let K = kept_set n w (n + h) r (omega arith) (omega arith) in
       let off : (k : ℕ) → (k ≡ n + h → ⊥) → get_or w₁ k 0 ≡ get_or w k 0 = λ k ne. get_or-set_other w (n + h) k r 0 ne in
       let new : new_class n w₁ h ≡ r = get_or-set_same w (n + h) r 0 (omega (arith, P.room.long)) in
       let old : (g : ℕ) → g < h → new_class n w₁ g ≡ new_class n w g = λ g gl. off (n + g) (omega arith) in (
         record {
           room = room_kept n w w₁ K.within.length_stays P.room;
-          grouped = grouped_joined w w₁ n h hn K.first old P.grouped r l (F.class l) (F.alike l ∙ es) new;
+          grouped = grouped_joined w w₁ n h hn K.first old P.grouped r J.below J.class (J.alike ∙ es) new;
           chained = chained_joined w w₁ n h hn K.first old P.chained (λ g gl. off (3 * n + g) (omega arith))
               (λ b bl. off (2 * n + b) (omega arith)) (omega arith);
         },
@@ -48,35 +50,37 @@ module _ (w : List ℕ) (n h s r : ℕ) (P : Placed w n h) (hn : h < n) (es : s 
       )
 
   module _ (b : ℕ) (eb : b ≡ bucket n s) where
+    abbrev w₁ : List ℕ
+    w₁ = classed h
+
     abbrev w₂ : List ℕ
     w₂ = set w₁ (3 * n + h) (head n w₁ b)
 
     abbrev w₃ : List ℕ
     w₃ = set w₂ (2 * n + b) (h + 1)
 
-    pub placed_alone : h ≤ r → Placed w₃ n (h + 1) × Kept n w w₃
-    placed_alone l =
-        let er : r ≡ h = omega (arith, F.no_greater) in
+    pub placed_alone : Found w n h s None → Placed w₃ n (h + 1) × Kept n w w₃
+    placed_alone none_below =
         let bl : b < n = omega (arith, bucket_lt n s P.room.some_history) in
         let own : b ≡ bucket_of w n h = eb ∙ ap (bucket n) es in
-        let K₁ = kept_set n w (n + h) r (omega arith) (omega arith) in
+        let K₁ = kept_set n w (n + h) h (omega arith) (omega arith) in
         let K₂ = kept_set n w₁ (3 * n + h) (head n w₁ b) (omega arith) (omega arith) in
         let K₃ = kept_set n w₂ (2 * n + b) (h + 1) (omega arith) (omega arith) in
         let K = kept_trans n w w₁ w₃ K₁ (kept_trans n w₁ w₂ w₃ K₂ K₃) in
         let off : (k : ℕ) → (k ≡ n + h → ⊥) → (k ≡ 3 * n + h → ⊥) → (k ≡ 2 * n + b → ⊥) → get_or w₃ k 0 ≡ get_or w k 0 =
-        λ k a c d. get_or-set_other w₂ (2 * n + b) k (h + 1) 0 d ∙ get_or-set_other w₁ (3 * n + h) k (head n w₁ b) 0 c ∙ get_or-set_other w (n + h) k r 0 a in
+        λ k a c d. get_or-set_other w₂ (2 * n + b) k (h + 1) 0 d ∙ get_or-set_other w₁ (3 * n + h) k (head n w₁ b) 0 c ∙ get_or-set_other w (n + h) k h 0 a in
         let new : new_class n w₃ h ≡ h =
         get_or-set_other w₂ (2 * n + b) (n + h) (h + 1) 0 (omega arith) ∙ get_or-set_other w₁ (3 * n + h) (n + h) (head n w₁ b) 0 (omega arith)
-        ∙ get_or-set_same w (n + h) r 0 (omega arith) ∙ er in
+        ∙ get_or-set_same w (n + h) h 0 (omega arith) in
         let top : head n w₃ b ≡ h + 1 = get_or-set_same w₂ (2 * n + b) (h + 1) 0 (omega (arith, K₁.within.length_stays, K₂.within.length_stays)) in
         let next : link n w₃ h ≡ head n w b =
         get_or-set_other w₂ (2 * n + b) (3 * n + h) (h + 1) 0 (omega arith)
         ∙ get_or-set_same w₁ (3 * n + h) (head n w₁ b) 0 (omega (arith, K₁.within.length_stays))
-        ∙ get_or-set_other w (n + h) (2 * n + b) r 0 (omega arith) in
+        ∙ get_or-set_other w (n + h) (2 * n + b) h 0 (omega arith) in
         let old : (g : ℕ) → g < h → new_class n w₃ g ≡ new_class n w g = λ g gl. off (n + g) (omega arith) (omega arith) (omega arith) in (
           record {
             room = room_kept n w w₃ K.within.length_stays P.room;
-            grouped = grouped_alone w w₃ n h hn K.first old P.grouped (λ g gl c e. F.none_below er g gl c (e ∙ sym es)) new;
+            grouped = grouped_alone w w₃ n h hn K.first old P.grouped (λ g gl c e. none_below g gl c (e ∙ sym es)) new;
             chained = chained_alone w w₃ n h hn K.first old P.chained (λ g gl. off (3 * n + g) (omega arith) (omega arith) (omega arith)) new
                 (subst (λ z. head n w₃ z ≡ h + 1) own top)
                 (λ c cl d. off (2 * n + c) (omega arith) (omega arith) (λ q. d (let z : c ≡ b = omega arith in z ∙ own)))

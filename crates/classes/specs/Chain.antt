@@ -1,5 +1,5 @@
 -- What the work area holds in a round, when the histories below h have got their classes: in the second region the classes, in the third the heads of the buckets and in the fourth the links.
-use Rattle.std.specs.Prelude.{◌≡◌, List, ℕ, ◌+◌, ◌-◌, ◌*◌, ◌≤◌, ◌<◌, length, get_or}
+use Rattle.std.specs.Prelude.{◌≡◌, Option, Some, None, List, ℕ, ◌+◌, ◌-◌, ◌*◌, ◌≤◌, ◌<◌, length, get_or}
 use Rattle.classes.specs.Area.{used, high, Within}
 use Rattle.classes.specs.Signature.{sig, bucket}
 
@@ -47,12 +47,16 @@ pub record Placed (w : List ℕ) (n h : ℕ) : Type 0 where
   pub grouped : Grouped w n h
   pub chained : Chained w n h
 
--- r is the class below h of signature s, or h where there is none
-pub record Found (w : List ℕ) (n h s r : ℕ) : Type 0 where
-  pub no_greater : r ≤ h
-  pub class : r < h → new_class n w r ≡ r
-  pub alike : r < h → sig w n r ≡ s
-  pub none_below : r ≡ h → (g : ℕ) → g < h → new_class n w g ≡ g → sig w n g ≡ s → ⊥
+-- r is the class below h of signature s
+pub record Joins (w : List ℕ) (n h s r : ℕ) : Type 0 where
+  pub below : r < h
+  pub class : new_class n w r ≡ r
+  pub alike : sig w n r ≡ s
+
+-- the class below h of signature s, or that there is none
+abbrev pub Found : List ℕ → (n h s : ℕ) → Option ℕ → Type 0
+Found w n h s None = (g : ℕ) → g < h → new_class n w g ≡ g → sig w n g ≡ s → ⊥
+Found w n h s (Some r) = Joins w n h s r
 
 -- a round changes neither the first region nor what lies past the four
 pub record Kept (n : ℕ) (w w' : List ℕ) : Type 0 where

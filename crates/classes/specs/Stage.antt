@@ -1,5 +1,5 @@
 -- What the first region holds between the rounds: after k of them, the least history that can't be told apart in k jobs.
-use Rattle.std.specs.Prelude.{◌≡◌, Bool, true, false, cond, List, ℕ, suc, ◌+◌, ◌^◌, ◌≤◌, ◌<◌, eqb, get_or}
+use Rattle.std.specs.Prelude.{◌≡◌, Bool, true, false, cond, Option, Some, None, List, ℕ, suc, ◌+◌, ◌^◌, ◌≤◌, ◌<◌, eqb, get_or}
 use Rattle.machines.specs.Same.{SameTo}
 use Rattle.meaning.specs.declared.Limit.{Limit}
 use Rattle.meaning.specs.declared.LimitSet.{LimitSet}
@@ -39,10 +39,15 @@ abbrev pub Started : LimitSet → (n : ℕ) → (w w' : List ℕ) → Type 0
 Started s n w w' = Entered n (first_entry s) w w'
 
 -- r is the least of n histories whose entry isn't that of history 0, or n
-pub record FirstApart (n : ℕ) (w : List ℕ) (r : ℕ) : Type 0 where
+pub record LeastApart (n : ℕ) (w : List ℕ) (r : ℕ) : Type 0 where
   pub within : r ≤ n
   pub before : (g : ℕ) → g < r → get_or w g 0 ≡ get_or w 0 0
   pub here : r < n → get_or w r 0 ≡ get_or w 0 0 → ⊥
+
+-- the same, where n is no history
+abbrev pub FirstApart : (n : ℕ) → List ℕ → Option ℕ → Type 0
+FirstApart n w None = LeastApart n w n
+FirstApart n w (Some r) = (r < n) × LeastApart n w r
 
 -- an entry with its class after one job, where `other` is told apart from history 0
 abbrev pub parted_of : (first entry other : ℕ) → ℕ
@@ -50,7 +55,7 @@ parted_of first entry other = cond (eqb entry first) entry (entry + other)
 
 pub record Parted (n : ℕ) (w w' : List ℕ) : Type 0 where
   pub other : ℕ
-  pub apart : FirstApart n w other
+  pub apart : LeastApart n w other
   pub entered : Entered n (λ h. parted_of (get_or w 0 0) (get_or w h 0) other) w w'
 
 -- the classes of a round become those of the last one

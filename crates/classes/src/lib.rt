@@ -53,8 +53,8 @@ fn bucket_of(n: usize, s: usize) -> usize
     (s * 40503 / 65536) & (n - 1)
 }
 
-// The class below h of signature s, by way of its bucket b, or h where there is none.
-fn find(work: &[u16], n: usize, h: usize, s: usize, b: usize) -> usize
+// The class below h of signature s, by way of its bucket b.
+fn find(work: &[u16], n: usize, h: usize, s: usize, b: usize) -> Option<usize>
     requires { Room n work.now × Chained work.now n h × (h ≤ n) × (b < n) × (b ≡ bucket n s) }
     ensures { Found work.now n h s result }
 {
@@ -62,11 +62,11 @@ fn find(work: &[u16], n: usize, h: usize, s: usize, b: usize) -> usize
     while next != 0 {
         let g = next - 1;
         if signature(work, n, g) == s {
-            return g;
+            return Some(g);
         }
         next = entry(work, 3 * n + g);
     }
-    h
+    None
 }
 
 // Gives h its class. A class of its own goes to the front of its bucket.
@@ -76,11 +76,11 @@ fn place(work: &mut [u16], n: usize, h: usize)
 {
     let s = signature(work, n, h);
     let b = bucket_of(n, s);
-    let class = find(work, n, h, s, b);
-    work[n + h] = class as u16;
-    if class < h {
+    if let Some(class) = find(work, n, h, s, b) {
+        work[n + h] = class as u16;
         return;
     }
+    work[n + h] = h as u16;
     let head = work[2 * n + b];
     work[3 * n + h] = head;
     work[2 * n + b] = (h + 1) as u16;
@@ -90,9 +90,7 @@ fn clear_heads(work: &mut [u16], n: usize)
     requires { Room n work.old }
     ensures { Placed work.new n 0 × Kept n work.old work.new }
 {
-    for b in 0..n {
-        work[2 * n + b] = 0;
-    }
+    work[2 * n..3 * n].fill(0);
 }
 
 // One round: of each history the least one of the same signature.
@@ -111,12 +109,10 @@ fn changed(work: &[u16], n: usize) -> bool
     requires { Room n work.now }
     ensures { result ≡ false → (h : ℕ) → h < n → new_class n work.now h ≡ class_at work.now h }
 {
-    for h in 0..n {
-        if entry(work, n + h) != class_of(work, h) {
-            return true;
-        }
-    }
-    false
+    work[..n]
+        .iter()
+        .zip(&work[n..2 * n])
+        .any(|(last, class)| *class != *last % MAY_MISS)
 }
 
 // The classes of this round become those of the last.
@@ -149,9 +145,7 @@ fn mark(n: usize, work: &mut [u16])
     requires { Room n work.old }
     ensures { Entered n marked work.old work.new }
 {
-    for h in 0..n {
-        work[h] = MAY_MISS;
-    }
+    work[..n].fill(MAY_MISS);
 }
 
 // What a limit leaves of an entry of the first region.
@@ -170,9 +164,8 @@ fn unmark(limit: Limit, n: usize, work: &mut [u16])
     requires { Allowed longest limit × Room n work.old }
     ensures { Entered n (left_in limit work.old) work.old work.new }
 {
-    for h in 0..n {
-        let entry = work[h];
-        work[h] = left_of(limit, h, entry);
+    for (h, entry) in work[..n].iter_mut().enumerate() {
+        *entry = left_of(limit, h, *entry);
     }
 }
 
@@ -182,29 +175,18 @@ fn start(set: LimitSet, n: usize, work: &mut [u16])
     ensures { Started set n work.old work.new }
 {
     mark(n, work);
-    let count = set.count;
-    let mut i = 0;
-    while i < count {
-        let limit = set.limits[i];
-        unmark(limit, n, work);
-        i += 1;
+    for limit in &set.limits[..set.count] {
+        unmark(*limit, n, work);
     }
 }
 
-// The least history whose entry isn't that of history 0, or n where there is none.
-fn first_apart(work: &[u16], n: usize) -> usize
+// The least history whose entry isn't that of history 0.
+fn first_apart(work: &[u16], n: usize) -> Option<usize>
     requires { Room n work.now }
     ensures { FirstApart n work.now result }
 {
     let first = work[0];
-    let mut h = 0;
-    while h < n {
-        if work[h] != first {
-            return h;
-        }
-        h += 1;
-    }
-    n
+    work[..n].iter().position(|entry| *entry != first)
 }
 
 // An entry with its class after one job: history 0, or the least that one job tells apart from it.
@@ -223,11 +205,12 @@ fn part(n: usize, work: &mut [u16])
     requires { Room n work.old × ((h : ℕ) → h < n → get_or work.old h 0 ≤ high) }
     ensures { Parted n work.old work.new }
 {
-    let other = first_apart(work, n);
     let first = work[0];
-    for h in 0..n {
-        let entry = work[h];
-        work[h] = parted(first, entry, other);
+    let Some(other) = first_apart(work, n) else {
+        return;
+    };
+    for entry in &mut work[..n] {
+        *entry = parted(first, *entry, other);
     }
 }
 

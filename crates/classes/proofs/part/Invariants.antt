@@ -1,13 +1,10 @@
 -- `classes::part`: the entries below h are parted, and those from h on are as they were. Assumes nothing.
 use mathlib.Core.Path.{◌≡◌}
-use Prim.Native.Nat.{ℕ, ◌-◌, ◌≤◌, ◌<◌}
-use lib.ListN.{length, get_or}
+use Prim.Native.Nat.{ℕ, ◌≤◌, ◌<◌}
+use lib.ListN.{get_or}
 use Rattle.classes.specs.Stage.{parted_of}
 use Rattle.classes.proofs.part.Given as goal
 
-abbrev pub invariant-loop-h : goal.invariant-loop-h
-invariant-loop-h l =
-    (l.h ≤ l.n) × (length l.work ≡ length l.initial.work) × (l.first ≡ get_or l.initial.work 0 0) × ((g : ℕ) → g < l.h → get_or l.work g 0 ≡ parted_of (get_or l.initial.work 0 0) (get_or l.initial.work g 0) l.other) × ((g : ℕ) → l.h ≤ g → get_or l.work g 0 ≡ get_or l.initial.work g 0)
-
-abbrev pub decreases-loop-h : goal.decreases-loop-h
-decreases-loop-h l = l.n - l.h
+abbrev pub invariant-loop-entry : goal.invariant-loop-entry
+invariant-loop-entry l =
+    ((g : ℕ) → g < l.entry-index → get_or l.entry-items g 0 ≡ parted_of l.first (get_or l.fn.work g 0) l.other) × ((g : ℕ) → g < l.n → l.entry-index ≤ g → get_or l.entry-items g 0 ≡ get_or l.fn.work g 0)
