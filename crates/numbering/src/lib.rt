@@ -15,9 +15,7 @@ fn clear(n: usize, work: &mut [u16])
     requires { Ready n work.old }
     ensures { Cleared n work.old work.new }
 {
-    for c in 0..n {
-        work[2 * n + c] = 0;
-    }
+    work[2 * n..3 * n].fill(0);
 }
 
 // Numbers the class of a history, where it has no number yet.
@@ -66,7 +64,8 @@ fn visit_start(n: usize, work: &mut [u16]) -> usize
     visit(n, work, n - 1, 0)
 }
 
-// Numbers every class that is reached, and returns how many they are.
+// Numbers every class that is reached, and returns how many they are. The classes are a queue whose end the loop moves,
+// so its bound is no range's.
 pub fn number(n: usize, work: &mut [u16]) -> usize
     requires { (n ≤ high) × (used n ≤ length work.old) × OfSomeSet n work.old }
     ensures { NumberedFrom n work.old work.new result }
