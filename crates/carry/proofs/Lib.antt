@@ -1,5 +1,6 @@
 pub mod Parts
 pub mod Accepted
+pub mod Said
 pub mod Walking
 pub mod Reading
 pub mod Writing

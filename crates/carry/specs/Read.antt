@@ -1,12 +1,12 @@
 -- RULES, What each entry tests, reading a record back, and else: "the guard: in the state where the walk of the outcomes ends, lost as the record says, with its outcomes and its count". What a refusal leaves: "a refused start or reading back with a guard with nothing told".
-use Rattle.std.specs.Prelude.{◌≡◌, List, ℕ}
+use Rattle.std.specs.Prelude.{◌≡◌, List, ℕ, Result}
 use Rattle.std.proofs.Math.Option.{Option, none, some}
+use Rattle.layout.specs.declared.Refused.{Refused}
 use Rattle.layout.specs.Refusal.{Tested, passed, refused, first}
+use Rattle.layout.specs.Refused.{says}
 use Rattle.patterns.specs.Outcome.{outcome}
 use Rattle.guard.specs.declared.Guard.{Guard}
-use Rattle.guard.specs.declared.Started.{Started}
-use Rattle.guard.specs.declared.StartAnswer.TheVariants as start
-use Rattle.guard.specs.Guard.{fresh, start_says}
+use Rattle.guard.specs.Guard.{fresh, guard_in}
 use Rattle.carry.specs.Bytes.{version_for, many_in, outcomes_in, count_in, lost_byte}
 use Rattle.carry.specs.Rows.{led_to, read_rows}
 
@@ -20,13 +20,10 @@ guard_when passed n h r b = guard_at (led_to n h r b) n h r
 guard_when (refused number at) n h r b = fresh
 
 -- read as a record of version v, with h outcomes
-pub record ReadInVersion (widest n v h : ℕ) (r b : List ℕ) (back : Started) : Type 0 where
-  pub refusal : start_says back.answer ≡ first (read_rows widest n v h r b)
-  pub guard : back.guard ≡ guard_when (first (read_rows widest n v h r b)) n h r b
+pub record ReadInVersion (widest n v h : ℕ) (r b : List ℕ) (back : Result Guard Refused) : Type 0 where
+  pub refusal : says back ≡ first (read_rows widest n v h r b)
+  pub guard : guard_in back ≡ guard_when (first (read_rows widest n v h r b)) n h r b
 
 -- and as the version that it says
-abbrev pub ReadBackAs : (widest n : ℕ) → (r b : List ℕ) → Started → Type 0
+abbrev pub ReadBackAs : (widest n : ℕ) → (r b : List ℕ) → Result Guard Refused → Type 0
 ReadBackAs widest n r b = ReadInVersion widest n (version_for r) (many_in n r) r b
-
-abbrev pub refused_back : (number at : ℕ) → Started
-refused_back number at = record { answer = start.Refused number at; guard = fresh }

@@ -5,140 +5,114 @@
 
 ghost use Rattle.std.specs.Prelude.{◌≡◌, ◌≤◌};
 ghost use Rattle.layout.specs.Refusal.{first};
+ghost use Rattle.layout.specs.Refused.{says};
 ghost use Rattle.meaning.specs.Longest.{longest};
-ghost use Rattle.guard.specs.Guard.{start_says};
 ghost use Rattle.guard.specs.Told.{told_all};
 ghost use Rattle.carry.specs.Bytes.{carried, is_old};
 ghost use Rattle.carry.specs.Rows.{version_rows};
-ghost use Rattle.carry.specs.Read.{refused_back, ReadInVersion, ReadBackAs};
+ghost use Rattle.carry.specs.Read.{ReadInVersion, ReadBackAs};
 
 mod write;
 
-use guard::{Guard, HELD, StartAnswer, Started};
-use sets::SetAnswer;
+use guard::{Guard, HELD};
+use layout::Refused;
 pub use write::write_record;
 
-// The version that is written; its record has as many outcomes as a guard.
-const VERSION: u8 = 2;
+// A version of records, and how many outcomes each of them has.
+#[derive(Clone, Copy)]
+struct Version {
+    number: u8,
+    held: usize,
+}
 
-// The version before, and its outcomes.
-const OLD_VERSION: u8 = 1;
+// The version that is written: as many outcomes as a guard holds.
+const NEW: Version = Version {
+    number: 2,
+    held: HELD,
+};
 
-const OLD_HELD: usize = 11;
+// The version before.
+const OLD: Version = Version {
+    number: 1,
+    held: 11,
+};
 
 // What stands after a record's outcomes: the count and the lost byte.
 const AFTER: usize = 9;
 
-fn refused(number: u8, at: usize) -> Started
-    ensures { result ≡ refused_back number at }
-{
-    Started {
-        answer: StartAnswer::Refused { number, at },
-        guard: Guard::new(),
-    }
-}
-
 // Tests 18, 1 to 7, 21, 20, 13 and 19, of a version whose records have so many outcomes. They and a job more fill a window
 // of as many jobs, so a set is too wide for them where it isn't taken with that as the longest window.
-fn test_record(bytes: &[u8], version: u8, held: usize) -> StartAnswer
-    requires { held ≤ carried }
-    ensures { start_says result ≡ first (version_rows longest version held bytes.now) }
+fn test_record(bytes: &[u8], version: Version) -> Result<(), Refused>
+    requires { version.held ≤ carried }
+    ensures { says result ≡ first (version_rows longest version.number version.held bytes.now) }
 {
-    let tail = held + AFTER;
-    let number = layout::head_fault(bytes, 5 + tail, version, 18, 18);
-    if number != 0 {
-        return StartAnswer::Refused { number, at: 0 };
+    let tail = version.held + AFTER;
+    if layout::check_head(bytes, 5 + tail, version.number).is_err() {
+        return Err(Refused::Record);
     }
     let n = bytes.len();
     let end = n - tail;
-    let read = sets::read_set(&bytes[5..end]);
-    let answer = read.answer;
-    if let SetAnswer::Refused { number, at } = answer {
-        return StartAnswer::Refused { number, at };
+    let set = &bytes[5..end];
+    sets::read_set(set)?;
+    if sets::read_set_within(set, (version.held + 1) as u8).is_err() {
+        return Err(Refused::OldRecord);
     }
-    let filled = sets::read_set_within(&bytes[5..end], (held + 1) as u8);
-    let within = filled.answer;
-    let SetAnswer::Accepted = within else {
-        return StartAnswer::Refused { number: 20, at: 0 };
-    };
-    let past = end + held;
-    let bad = patterns::first_bad(&bytes[end..past]);
-    if bad < held {
-        return StartAnswer::Refused {
-            number: 13,
-            at: bad,
-        };
+    let past = end + version.held;
+    if let Some(place) = patterns::first_bad(&bytes[end..past]) {
+        return Err(Refused::Outcome { place });
     }
     if 1 < bytes[n - 1] {
-        return StartAnswer::Refused { number: 19, at: 0 };
+        return Err(Refused::LostByte);
     }
-    StartAnswer::Started
+    Ok(())
 }
 
-// A guard told outcomes one after the other.
-fn told(guard: Guard, table: &[u8], outcomes: &[u8]) -> Guard
-    ensures { result ≡ told_all table.now guard outcomes.now }
+// Tells a guard outcomes one after the other.
+fn tell_all(guard: &mut Guard, table: &[u8], outcomes: &[u8])
+    ensures { guard.new ≡ told_all table.now guard.old outcomes.now }
 {
-    let mut walked = guard;
     for byte in outcomes {
-        let after = walked.tell(table, *byte);
-        walked = after.guard;
+        let _ = guard.tell(table, *byte);
     }
-    walked
 }
 
 // The guard that a record has, in the state where its outcomes lead on a table: a start and a step for each outcome that
 // a guard holds. Those that the record doesn't have are hits.
-fn read_version(bytes: &[u8], version: u8, held: usize, table: &[u8]) -> Started
-    requires { held ≤ carried }
-    ensures { ReadInVersion longest carried version held bytes.now table.now result }
+fn read_version(bytes: &[u8], version: Version, table: &[u8]) -> Result<Guard, Refused>
+    requires { version.held ≤ carried }
+    ensures { ReadInVersion longest carried version.number version.held bytes.now table.now result }
 {
-    let tested = test_record(bytes, version, held);
-    if let StartAnswer::Refused { number, at } = tested {
-        return refused(number, at);
-    }
-    let started = Guard::start(table);
-    let answer = started.answer;
-    if let StartAnswer::Refused { number, at } = answer {
-        return refused(number, at);
-    }
+    test_record(bytes, version)?;
+    let mut walked = Guard::start(table)?;
     let hits = [1u8; HELD];
-    let older = told(started.guard, table, &hits[held..]);
+    tell_all(&mut walked, table, &hits[version.held..]);
     let n = bytes.len();
-    let end = n - (held + AFTER);
-    let past = end + held;
-    let walked = told(older, table, &bytes[end..past]);
+    let end = n - (version.held + AFTER);
+    let past = end + version.held;
+    tell_all(&mut walked, table, &bytes[end..past]);
     if walked.lost {
-        return refused(25, 0);
+        return Err(Refused::Walk);
     }
-    let outcomes = walked.outcomes;
-    Started {
-        answer: StartAnswer::Started,
-        guard: Guard {
-            state: walked.state,
-            lost: bytes[n - 1] != 0,
-            outcomes,
-            count: layout::eight_at(bytes, n - AFTER),
-        },
-    }
+    Ok(Guard {
+        lost: bytes[n - 1] != 0,
+        count: layout::eight_at(bytes, n - AFTER),
+        ..walked
+    })
 }
 
 // Whether a record says that it is of the version before.
 fn is_old(bytes: &[u8]) -> bool
     ensures { result ≡ is_old bytes.now }
 {
-    if bytes.len() < 5 {
-        return false;
-    }
-    bytes[4] == OLD_VERSION
+    4 < bytes.len() && bytes[4] == OLD.number
 }
 
 // Reads a record of either version back on a table.
-pub fn read_record(bytes: &[u8], table: &[u8]) -> Started
+pub fn read_record(bytes: &[u8], table: &[u8]) -> Result<Guard, Refused>
     ensures { ReadBackAs longest carried bytes.now table.now result }
 {
     if is_old(bytes) {
-        return read_version(bytes, OLD_VERSION, OLD_HELD, table);
+        return read_version(bytes, OLD, table);
     }
-    read_version(bytes, VERSION, HELD, table)
+    read_version(bytes, NEW, table)
 }

@@ -6,10 +6,9 @@ ghost use Rattle.meaning.specs.Longest.{longest};
 ghost use Rattle.carry.specs.Bytes.{carried, new_version, head_bytes, tail_bytes, tail_size};
 ghost use Rattle.carry.specs.Write.{RecordWrittenAs};
 
-use super::{AFTER, VERSION};
+use super::{AFTER, NEW};
 use guard::{Guard, HELD};
-use layout::WriteAnswer;
-use sets::SetAnswer;
+use layout::Refused;
 
 // What stands after the set's bytes: the outcomes, the count and the lost byte.
 const TAIL: usize = HELD + AFTER;
@@ -23,7 +22,7 @@ fn put_set(set: &[u8], out: &mut [u8])
     ensures { out.new ≡ head_bytes new_version carried set.now ++ drop (5 + length set.now) out.old }
 {
     layout::put_four(out, 0, 1 + set.len() + TAIL);
-    out[4] = VERSION;
+    out[4] = NEW.number;
     out[5..5 + set.len()].copy_from_slice(set);
 }
 
@@ -49,23 +48,16 @@ fn put_guard(out: &mut [u8], at: usize, guard: Guard)
 }
 
 // Writes a guard with the bytes of a set at the start of `out`, and says how many bytes it took.
-pub fn write_record(guard: Guard, set: &[u8], out: &mut [u8]) -> WriteAnswer
+pub fn write_record(guard: Guard, set: &[u8], out: &mut [u8]) -> Result<usize, Refused>
     ensures { RecordWrittenAs longest carried guard set.now out.old out.new result }
 {
-    let read = sets::read_set(set);
-    let answer = read.answer;
-    if let SetAnswer::Refused { number, at } = answer {
-        return WriteAnswer::Refused { number, at };
-    }
+    sets::read_set(set)?;
     let n = set.len();
     let size = n + AROUND;
     if out.len() < size {
-        return WriteAnswer::Refused {
-            number: 9,
-            at: size,
-        };
+        return Err(Refused::Room { needed: size });
     }
     put_set(set, out);
     put_guard(out, 5 + n, guard);
-    WriteAnswer::Written(size)
+    Ok(size)
 }

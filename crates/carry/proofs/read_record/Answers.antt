@@ -4,13 +4,15 @@ use mathlib.Core.Bool.{Bool, cond}
 use mathlib.Core.List.{List}
 use Prim.Native.Nat.{ℕ}
 use Rattle.meaning.specs.Longest.{longest}
-use Rattle.guard.specs.declared.Started.{Started}
+use Rattle.std.specs.Prelude.{Result}
+use Rattle.layout.specs.declared.Refused.{Refused}
+use Rattle.guard.specs.declared.Guard.{Guard}
 use Rattle.carry.specs.Bytes.{old_version, new_version, old_carried, carried}
 use Rattle.carry.specs.Read.{ReadInVersion}
 use Rattle.carry.proofs.read_record.Goals as goal
 
 -- what is read where the record is of the version before, and where it isn't
-abbrev ReadWhen : Bool → (r b : List ℕ) → Started → Type 0
+abbrev ReadWhen : Bool → (r b : List ℕ) → Result Guard Refused → Type 0
 ReadWhen old r b = ReadInVersion longest carried (cond old old_version new_version) (cond old old_carried carried) r b
 
 pub returns-then-is_old : goal.returns-then-is_old

@@ -6,6 +6,8 @@ use mathlib.Core.List.{List, ◌++◌}
 use Prim.Native.Nat.{ℕ, ◌-◌, ◌≤◌}
 use native.Mathlib.Omega.{arith}
 use lib.ListN.{length, replicate, length-append, length-replicate}
+use Rattle.std.specs.Prelude.{Result, Ok}
+use Rattle.layout.specs.declared.Refused.{Refused}
 use Rattle.layout.specs.Refusal.{passed, first}
 use Rattle.patterns.specs.Outcome.{outcome, outcome_rows}
 use Rattle.patterns.proofs.Outcomes.{outcomes_passed}
@@ -14,19 +16,18 @@ use Rattle.meaning.specs.Longest.{longest}
 use Rattle.table.specs.Bytes.{machine_of}
 use Rattle.table.specs.Rows.{table_rows}
 use Rattle.guard.specs.declared.Guard.{Guard}
-use Rattle.guard.specs.declared.Started.{Started}
-use Rattle.guard.specs.declared.StartAnswer.TheVariants as start
-use Rattle.guard.specs.Guard.{fresh, start_says}
+use Rattle.guard.specs.Guard.{fresh}
 use Rattle.guard.specs.Told.{told_all}
 use Rattle.guard.proofs.Walked.{told_then}
 use Rattle.carry.specs.Bytes.{carried, outcome_bytes, outcomes_in, lost_byte}
 use Rattle.carry.specs.Rows.{version_rows, led_to}
 use Rattle.carry.specs.Read.{ReadInVersion}
+use Rattle.carry.proofs.Said.{handed_on}
 use Rattle.carry.proofs.Parts.{hits_part, outcome_part, outcome_count}
 use Rattle.carry.proofs.Accepted.{Record, accepted_record}
 use Rattle.carry.proofs.Reading.{back_refused, back_table, back_nowhere, back_led}
 use Rattle.carry.proofs.Walking.{hits_passed, hits_outcomes, walked_lost, walked_kept}
-use Rattle.carry.proofs.read_version.Goals.{After-told-walked, In_default, In_default-answer}
+use Rattle.carry.proofs.read_version.Goals.{After-tell_all-2, In_ok-test_record, In_ok-walked}
 use Rattle.carry.proofs.read_version.Goals as goal
 
 -- the bytes told: hits for the outcomes that a record doesn't have, then its own
@@ -56,78 +57,79 @@ module _ (v h : ℕ) (r b : List ℕ) (most : h ≤ carried) (right : Record lon
       (ap (walk (machine_of b) 0) (sym os) ∙ w ∙ ap {B = Option ℕ} some (sym (ap (λ z. z.state) told)), ap (λ z. z.outcomes) told ∙ o ∙ os)
 
 -- past the record's tests
-accepted : (c : In_default) → first (version_rows longest c.args.version c.args.held c.args.bytes.now) ≡ passed
-accepted c = sym c.in_default.ensures
+accepted : (c : In_ok-test_record) → first (version_rows longest c.args.version.number c.args.version.held c.args.bytes.now) ≡ passed
+accepted c = sym c.in_ok-test_record.ensures
 
-right : (c : In_default) → Record longest c.args.version c.args.held c.args.bytes.now
-right c = accepted_record longest c.args.version c.args.held c.args.bytes.now (accepted c)
+right : (c : In_ok-test_record) → Record longest c.args.version.number c.args.version.held c.args.bytes.now
+right c = accepted_record longest c.args.version.number c.args.version.held c.args.bytes.now (accepted c)
 
 -- past the table's
-checked : (c : In_default-answer) → first (table_rows c.args.table.now) ≡ passed
-checked c = sym c.start-started.ensures.refusal ∙ ap start_says c.in_default-answer.is
+checked : (c : In_ok-walked) → first (table_rows c.args.table.now) ≡ passed
+checked c = sym c.in_ok-walked.ensures.refusal
 
-told : (c : After-told-walked) → c.told-walked.result ≡ told_all c.args.table.now fresh (bytes_told c.args.held c.args.bytes.now)
+told : (c : After-tell_all-2) → c.tell_all-2.new.guard ≡ told_all c.args.table.now fresh (bytes_told c.args.version.held c.args.bytes.now)
 told c =
-    let h = c.args.held in
+    let h = c.args.version.held in
     let r = c.args.bytes.now in
     let b = c.args.table.now in
-    c.told-walked.ensures
+    c.tell_all-2.ensures
     ∙ ap₂ (λ g l. told_all b g l)
-    (c.told-older.ensures ∙ ap₂ (λ g l. told_all b g l) c.start-started.ensures.guard (hits_part carried h c.requires))
+    (c.tell_all.ensures ∙ ap₂ (λ g l. told_all b g l) c.in_ok-walked.ensures.guard (hits_part carried h c.requires))
     (outcome_part h r)
     ∙ sym (told_then b fresh (replicate (carried - h) 1) (outcome_bytes h r))
 
-pub returns-in-Refused : goal.returns-in-Refused
-returns-in-Refused c =
+pub returns-in_err-test_record : goal.returns-in_err-test_record
+returns-in_err-test_record c =
     let a = c.args in
-    subst (ReadInVersion longest carried a.version a.held a.bytes.now a.table.now) (sym c.refused.ensures)
-    (back_refused longest carried a.version a.held a.bytes.now a.table.now _ _ (sym c.in-Refused.ensures))
+    subst (ReadInVersion longest carried a.version.number a.version.held a.bytes.now a.table.now) (sym (handed_on _ c.from_residual.result c.from_residual.ensures.1))
+    (back_refused longest carried a.version.number a.version.held a.bytes.now a.table.now _ (sym c.in_err-test_record.ensures))
 
-pub returns-in-Refused-answer : goal.returns-in-Refused-answer
-returns-in-Refused-answer c =
+pub returns-in_err-walked : goal.returns-in_err-walked
+returns-in_err-walked c =
     let a = c.args in
-    subst (ReadInVersion longest carried a.version a.held a.bytes.now a.table.now) (sym c.refused-in-Refused-answer.ensures)
-    (back_table longest carried a.version a.held a.bytes.now a.table.now (accepted (goal.at.returns-in-Refused-answer c).In_default) _ _ (sym c.start-started.ensures.refusal ∙ ap start_says c.in-Refused-answer.is))
+    let f = c.from_residual-in_err-walked in
+    subst (ReadInVersion longest carried a.version.number a.version.held a.bytes.now a.table.now) (sym (handed_on _ f.result f.ensures.1))
+    (back_table longest carried a.version.number a.version.held a.bytes.now a.table.now (accepted (goal.at.returns-in_err-walked c).In_ok-test_record) _ (sym c.in_err-walked.ensures.refusal))
 
 pub returns-then-walked : goal.returns-then-walked
 returns-then-walked c =
     let a = c.args in
-    let h = a.held in
+    let v = a.version in
     let r = a.bytes.now in
     let b = a.table.now in
     let at = goal.at.returns-then-walked c in
-    let k = checked at.In_default-answer in
-    subst (ReadInVersion longest carried a.version h r b) (sym c.refused-then-walked.ensures)
-    (back_nowhere longest carried a.version h r b (accepted at.In_default) k (led_nowhere a.version h r b c.requires (right at.In_default) k c.told-walked.result (told at.After-told-walked) c.if-walked.true))
+    let k = checked at.In_ok-walked in
+    back_nowhere longest carried v.number v.held r b (accepted at.In_ok-test_record) k
+    (led_nowhere v.number v.held r b c.requires (right at.In_ok-test_record) k c.tell_all-2.new.guard (told at.After-tell_all-2) c.if-walked.true)
 
 pub returns : goal.returns
 returns c =
     let a = c.args in
-    let h = a.held in
+    let v = a.version in
     let r = a.bytes.now in
     let b = a.table.now in
     let at = goal.at.returns c in
-    let k = checked at.In_default-answer in
-    let (w, o) = led a.version h r b c.requires (right at.In_default) k c.told-walked.result (told at.After-told-walked) c.if-walked.false in
-    let to = c.told-walked.result.state in
-    subst (ReadInVersion longest carried a.version h r b)
-    (ap₂ {C = Started} (λ os n. record { answer = start.Started; guard = record { state = to; lost = outcome (lost_byte r); outcomes = os; count = n } }) (sym o) (sym c.eight_at.ensures))
-    (back_led longest carried a.version h r b (accepted at.In_default) k to w)
+    let k = checked at.In_ok-walked in
+    let (w, o) = led v.number v.held r b c.requires (right at.In_ok-test_record) k c.tell_all-2.new.guard (told at.After-tell_all-2) c.if-walked.false in
+    let to = c.tell_all-2.new.guard.state in
+    subst (ReadInVersion longest carried v.number v.held r b)
+    (ap₂ {C = Result Guard Refused} (λ os n. Ok (record { state = to; lost = outcome (lost_byte r); outcomes = os; count = n })) (sym o) (sym c.eight_at.ensures))
+    (back_led longest carried v.number v.held r b (accepted at.In_ok-test_record) k to w)
 
 pub overflow_sub-end : goal.overflow_sub-end
-overflow_sub-end c = omega (arith, (right (goal.at.overflow_sub-end c).In_default).least)
+overflow_sub-end c = omega (arith, (right (goal.at.overflow_sub-end c).In_ok-test_record).least)
 
-pub slice_bounds-told-end-2 : goal.slice_bounds-told-end-2
-slice_bounds-told-end-2 c = omega (arith, (right (goal.at.slice_bounds-told-end-2 c).In_default).least)
+pub slice_bounds-tell_all-end-2 : goal.slice_bounds-tell_all-end-2
+slice_bounds-tell_all-end-2 c = omega (arith, (right (goal.at.slice_bounds-tell_all-end-2 c).In_ok-test_record).least)
 
 pub overflow_sub-n : goal.overflow_sub-n
-overflow_sub-n c = omega (arith, (right (goal.at.overflow_sub-n c).In_default).least)
+overflow_sub-n c = omega (arith, (right (goal.at.overflow_sub-n c).In_ok-test_record).least)
 
 pub overflow_sub-result : goal.overflow_sub-result
-overflow_sub-result c = omega (arith, (right (goal.at.overflow_sub-result c).In_default).least)
+overflow_sub-result c = omega (arith, (right (goal.at.overflow_sub-result c).In_ok-test_record).least)
 
 pub bounds-bytes-n : goal.bounds-bytes-n
-bounds-bytes-n c = omega (arith, (right (goal.at.bounds-bytes-n c).In_default).least)
+bounds-bytes-n c = omega (arith, (right (goal.at.bounds-bytes-n c).In_ok-test_record).least)
 
 pub eight_at-requires : goal.eight_at-requires
-eight_at-requires c = omega (arith, (right (goal.at.eight_at-requires c).In_default).least)
+eight_at-requires c = omega (arith, (right (goal.at.eight_at-requires c).In_ok-test_record).least)
