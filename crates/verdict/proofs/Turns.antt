@@ -9,7 +9,6 @@ use lib.Dec.{T}
 use lib.ListN.{length, get_or, take, length-take}
 use lib.Seq.{take-take, take-suc, take_all}
 use lib.IntN.{pos, neg_ℤ, ◌-ℤ◌}
-use Rattle.layout.specs.Refusal.{first}
 use Rattle.meaning.specs.declared.LimitSet.{LimitSet}
 use Rattle.meaning.specs.Kept.{Kept}
 use Rattle.meaning.specs.Broken.{EarliestBroken, BrokenFrom}
@@ -25,10 +24,9 @@ use Rattle.history.proofs.Histories.{history_push, history_start}
 use Rattle.history.proofs.MissLaws.{decides_under, may_miss_kept}
 use Rattle.history.proofs.Blocking.{none_blocks}
 use Rattle.history.proofs.Broken.{reaches_earliest}
-use Rattle.verdict.specs.declared.Judgement.{Judgement}
-use Rattle.verdict.specs.Judge.{JudgedBy}
-use Rattle.verdict.specs.declared.Turn.{Turn}
-use Rattle.verdict.specs.declared.Turn.TheVariants as turn
+use Rattle.std.specs.Prelude.{Some, Ok, Err}
+use Rattle.verdict.specs.declared.Loss.{Loss}
+use Rattle.verdict.specs.Judge.{Verdict}
 use Rattle.verdict.specs.Turn.{Turned, SaysLost, Stands}
 
 abbrev m : ℕ
@@ -53,9 +51,9 @@ module _ (s : LimitSet) (ok : SetAllowed longest s) (p : List Bool) (i h : ℕ) 
     within = omega (arith, q);
   }
 
-  stands_on : (o : Bool) → get_or p i false ≡ o → (h' : ℕ) → Turned s h o (turn.Kept h') → Stands s p (i + 1) h'
-  stands_on true e h' q = goes_on true e h' q (kept_by_hit s (take i p) stands.kept)
-  stands_on false e h' (blocks, q) =
+  pub turned_kept : (o : Bool) → get_or p i false ≡ o → (h' : ℕ) → Turned s h o (Ok h') → Stands s p (i + 1) h'
+  turned_kept true e h' q = goes_on true e h' q (kept_by_hit s (take i p) stands.kept)
+  turned_kept false e h' (blocks, q) =
       goes_on false e h' q
       ((may_miss_kept m (take i p) s ok stands.kept).0 (T_of _ (none_blocks s (history_of m (take i p)) s.count (subst (λ z. Blocks s z s.count) stands.history blocks) refl)))
 
@@ -91,24 +89,16 @@ module _ (s : LimitSet) (ok : SetAllowed longest s) (p : List Bool) (i h : ℕ) 
           steps_swap (pos i) (pos 1) (neg_ℤ (pos back)),
         )
 
-  judged_lost : (o : Bool) → get_or p i false ≡ o → (n : ℕ) → Turned s h o (turn.Lost n) → (r : Judgement) → SaysLost s h i n r → JudgedBy [] s p r
-  unfolding first
-  judged_lost true e n t r q = absurd t
-  judged_lost false e n (blocks, lt) r (back, b, q) =
-      rw q (record { refusal = refl; verdict = (lost_here e n blocks lt, said_from e n blocks lt back b) })
+  pub turned_lost : (o : Bool) → get_or p i false ≡ o → (n : ℕ) → Turned s h o (Err n) → (r : Loss) → SaysLost s h i n r → Verdict s p (Ok (Some r))
+  turned_lost true e n t r q = absurd t
+  turned_lost false e n (blocks, lt) r (back, b, q) = rw q (lost_here e n blocks lt, said_from e n blocks lt back b)
 
-  -- what a turn answers at the next outcome, and what the pattern then is
-  module _ (o : Bool) (e : get_or p i false ≡ o) (t : Turn) (turned : Turned s h o t) where
-    pub turned_kept : (h' : ℕ) → t ≡ turn.Kept h' → Stands s p (i + 1) h'
-    turned_kept h' is = stands_on o e h' (subst (Turned s h o) is turned)
-
-    pub turned_lost : (n : ℕ) → t ≡ turn.Lost n → (r : Judgement) → SaysLost s h i n r → JudgedBy [] s p r
-    turned_lost n is = judged_lost o e n (subst (Turned s h o) is turned)
+-- whatever was turned, the history that is left is a history
+pub turned_within : (s : LimitSet) (h : ℕ) (o : Bool) (h' : ℕ) → Turned s h o (Ok h') → h' < 2 ^ m
+turned_within s h true h' q = omega (arith, q)
+turned_within s h false h' (_, q) = omega (arith, q)
 
 -- a turn is lost where a limit of the set blocks it
-pub turned_blocks : (s : LimitSet) (h : ℕ) (o : Bool) (t : Turn) → Turned s h o t → (n : ℕ) → t ≡ turn.Lost n → Blocks s h n × (n < s.count)
-turned_blocks s h o t turned n is = go o (subst (Turned s h o) is turned)
-  where
-    go : (o : Bool) → Turned s h o (turn.Lost n) → Blocks s h n × (n < s.count)
-    go true t = absurd t
-    go false t = t
+pub turned_blocks : (s : LimitSet) (h : ℕ) (o : Bool) (n : ℕ) → Turned s h o (Err n) → Blocks s h n × (n < s.count)
+turned_blocks s h true n t = absurd t
+turned_blocks s h false n t = t
