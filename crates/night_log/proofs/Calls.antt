@@ -11,14 +11,13 @@ use borrow.Author.Tests.{lt-ltb, le-ltb}
 use denote.Ref.{Bor}
 use lib.ListN.{length}
 use Rattle.layout.specs.Refusal.{passed, first}
-use Rattle.night_log.specs.declared.LogAnswer.{LogAnswer}
-use Rattle.night_log.specs.declared.LogAnswer.TheVariants.{End}
-use Rattle.night_log.specs.declared.LogRead.{LogRead}
+use Rattle.std.specs.Prelude.{Option, Result}
+use Rattle.layout.specs.declared.Refused.{Refused}
 use Rattle.night_log.specs.declared.reader.LogReader.{LogReader}
 use Rattle.night_log.specs.Bytes.{outcome_at, log_of, outcomes_of}
 use Rattle.night_log.specs.Rows.{log_rows}
 use Rattle.night_log.specs.Read.{ReadAs}
-use Rattle.night_log.specs.Calls.{answer_of, Calls, HandsInOrder, EndsAfter, ReaderCalls, reads_of}
+use Rattle.night_log.specs.Calls.{LogRead, answer_of, the_end, Calls, HandsInOrder, EndsAfter, ReaderCalls, reads_of}
 use Rattle.night_log.proofs.OneResult.{gives, read_when, read_known}
 use Rattle.night_log.proofs.RoundTrip.{log_accepted, log_outcomes}
 
@@ -31,21 +30,21 @@ module _ (b : List ℕ) (reads : ℕ → LogRead) (accepted : first (log_rows b)
   before zero = 0
   before (suc n) = (reads n).place
 
-  call : (n : ℕ) → ReadAs b (before n) (reads n)
+  call : (n : ℕ) → ReadAs b (before n) (reads n).answer (reads n).place
   call zero = c.begins
   call (suc n) = c.goes_on n
 
-  call_gave : (n i : ℕ) → before n ≡ i → reads n ≡ read_when passed p i
-  call_gave n i e = read_known b (before n) (reads n) (call n) ∙ ap (λ t. read_when t p (before n)) accepted ∙ ap (read_when passed p) e
+  call_gave : (n i : ℕ) → before n ≡ i → reads n ≡ read_when p i
+  call_gave n i e = read_known b (before n) (reads n).answer (reads n).place (call n) accepted ∙ ap (read_when p) e
 
   within : (n : ℕ) → before n ≡ n → n < length p → ((reads n).answer ≡ answer_of (outcome_at p n)) × ((reads n).place ≡ suc n)
   within n e h =
       let f : reads n ≡ gives (answer_of (outcome_at p n)) (n + 1) = call_gave n n e ∙ (rw (lt-ltb n (length p) h)) in
       (ap (λ r. r.answer) f, ap (λ r. r.place) f ∙ add-one n)
 
-  past : (n : ℕ) → before n ≡ length p → ((reads n).answer ≡ End) × ((reads n).place ≡ length p)
+  past : (n : ℕ) → before n ≡ length p → ((reads n).answer ≡ the_end) × ((reads n).place ≡ length p)
   past n e =
-      let f : reads n ≡ gives End (length p) = call_gave n (length p) e ∙ (rw (le-ltb (length p) (length p) (omega arith))) in
+      let f : reads n ≡ gives the_end (length p) = call_gave n (length p) e ∙ (rw (le-ltb (length p) (length p) (omega arith))) in
       (ap (λ r. r.answer) f, ap (λ r. r.place) f)
 
   pub calls_in_order : HandsInOrder p reads
@@ -64,16 +63,16 @@ module _ (p : List Bool) (reads : ℕ → LogRead) (c : Calls (log_of p) reads) 
   reads_end = subst (λ q. EndsAfter q reads) (log_outcomes p) (calls_end (log_of p) reads (log_accepted p) c)
 
 -- the calls of a reader that keeps the bytes are calls on these bytes
-module _ (log : Bor (List ℕ)) (readers : ℕ → LogReader) (answers : ℕ → LogAnswer) (c : ReaderCalls log readers answers) where
+module _ (log : Bor (List ℕ)) (readers : ℕ → LogReader) (answers : ℕ → Result (Option Bool) Refused) (c : ReaderCalls log readers answers) where
   same_log : (n : ℕ) → (readers n).log ≡ log
   same_log zero = c.opened.0
   same_log (suc n) = (c.goes_on n).same_log ∙ same_log n
 
   pub reader_calls : Calls log.now (reads_of readers answers)
   reader_calls = record {
-    begins = subst (λ i. ReadAs log.now i (reads_of readers answers 0)) c.opened.1 (at_log 0);
+    begins = subst (λ i. ReadAs log.now i (answers 0) (readers 1).place) c.opened.1 (at_log 0);
     goes_on = λ n. at_log (suc n);
   }
     where
-      at_log : (n : ℕ) → ReadAs log.now (readers n).place (reads_of readers answers n)
-      at_log n = subst (λ l. ReadAs l.now (readers n).place (reads_of readers answers n)) (same_log n) (c.goes_on n).read
+      at_log : (n : ℕ) → ReadAs log.now (readers n).place (answers n) (readers (suc n)).place
+      at_log n = subst (λ l. ReadAs l.now (readers n).place (answers n) (readers (suc n)).place) (same_log n) (c.goes_on n).read

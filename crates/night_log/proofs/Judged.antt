@@ -14,7 +14,9 @@ use Rattle.patterns.proofs.Outcomes.{outcomes_bits, bits_passed}
 use Rattle.meaning.specs.Longest.{longest}
 use Rattle.sets.specs.Bytes.{set_of}
 use Rattle.sets.specs.Rows.{set_rows}
-use Rattle.verdict.specs.declared.Judgement.{Judgement}
+use Rattle.std.specs.Prelude.{Option, Result}
+use Rattle.layout.specs.declared.Refused.{Refused}
+use Rattle.verdict.specs.declared.Loss.{Loss}
 use Rattle.verdict.specs.Judge.{most_jobs, pattern_rows, Verdict, JudgedAs}
 use Rattle.verdict.proofs.OneResult.{judged_one_result}
 use Rattle.night_log.specs.Bytes.{outcomes_of}
@@ -31,7 +33,7 @@ pub log_never_26 : (log : List ℕ) → ((i : ℕ) → byte_at log i < 256) → 
 log_never_26 log bytes = omega (arith, length-map (outcomes_of log) bit, outcomes_length log, bytes 5, bytes 6, bytes 7, bytes 8)
 
 pub log_judged_as_bytes : (set log : List ℕ) → ((i : ℕ) → byte_at log i < 256) → first (log_rows log) ≡ passed
-    → (r t : Judgement) → LogJudgedAs longest set log r → JudgedAs longest set (bytes_of (outcomes_of log)) t → r ≡ t
+    → (r t : Result (Option Loss) Refused) → LogJudgedAs longest set log r → JudgedAs longest set (bytes_of (outcomes_of log)) t → r ≡ t
 log_judged_as_bytes set log bytes e r t a b =
     let p = outcomes_of log in
     let few = first_skip 26 0 _ (outcome_rows (bytes_of p) 0) (le-ltb most_jobs (length (bytes_of p)) (log_never_26 log bytes)) ∙ bits_passed p 0 in

@@ -6,22 +6,21 @@ use native.Mathlib.Omega.{arith}
 use denote.Ref.{Bor}
 use lib.ListN.{length, take, drop, length-map}
 use lib.Seq.{take_at}
-use Rattle.layout.specs.declared.WriteAnswer.TheVariants.{Written}
+use Rattle.std.specs.Prelude.{Bool, Option, Result, Ok}
+use Rattle.layout.specs.declared.Refused.{Refused}
 use Rattle.layout.specs.Refusal.{passed, first}
 use Rattle.layout.specs.Write.{buffer_when, length_when}
 use Rattle.patterns.specs.Outcome.{outcome, outcomes}
-use Rattle.night_log.specs.declared.LogAnswer.{LogAnswer}
-use Rattle.night_log.specs.declared.LogRead.{LogRead}
 use Rattle.night_log.specs.declared.reader.LogReader.{LogReader}
 use Rattle.night_log.specs.Bytes.{packed_size, size_of, log_of}
 use Rattle.night_log.specs.Rows.{log_rows, write_rows}
 use Rattle.night_log.specs.Write.{LogWrittenAs}
-use Rattle.night_log.specs.Calls.{Calls, HandsInOrder, EndsAfter, ReaderCalls, reads_of}
+use Rattle.night_log.specs.Calls.{LogRead, Calls, HandsInOrder, EndsAfter, ReaderCalls, reads_of}
 use Rattle.night_log.proofs.Packing.{packed_length}
 use Rattle.night_log.proofs.RoundTrip.{log_accepted}
 use Rattle.night_log.proofs.Calls.{reads_back, reads_end, reader_calls}
 
-module _ (pattern out out' : List ℕ) (n : ℕ) (written : LogWrittenAs pattern out out' (Written n)) where
+module _ (pattern out out' : List ℕ) (n : ℕ) (written : LogWrittenAs pattern out out' (Ok n)) where
   -- as many bytes as the writer returned
   abbrev stored : List ℕ
   stored = take n out'
@@ -57,7 +56,7 @@ module _ (pattern out out' : List ℕ) (n : ℕ) (written : LogWrittenAs pattern
     stored_then_ends = reads_end (outcomes pattern) reads on_log
 
   -- by a reader that keeps these bytes
-  pub stored_reader : (log : Bor (List ℕ)) (readers : ℕ → LogReader) (answers : ℕ → LogAnswer) → log.now ≡ stored → ReaderCalls log readers answers
+  pub stored_reader : (log : Bor (List ℕ)) (readers : ℕ → LogReader) (answers : ℕ → Result (Option Bool) Refused) → log.now ≡ stored → ReaderCalls log readers answers
       → HandsInOrder (outcomes pattern) (reads_of readers answers) × EndsAfter (outcomes pattern) (reads_of readers answers)
   stored_reader log readers answers e c =
       let calls = subst (λ z. Calls z (reads_of readers answers)) e (reader_calls log readers answers c) in

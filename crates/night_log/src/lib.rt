@@ -2,10 +2,10 @@
 // Refuses by 15 for a log that isn't one, then by 16 for unused bits that aren't zero; each call tests both, in constant time.
 #![tactic(auto)]
 
-ghost use Rattle.std.specs.Prelude.{◌≡◌, ◌+◌, ◌*◌, ◌/◌, ◌%◌, ◌^◌, ◌≤◌, ◌<◌, length};
+ghost use Rattle.std.specs.Prelude.{◌≡◌, ◌+◌, ◌*◌, ◌/◌, ◌%◌, ◌^◌, ◌≤◌, ◌<◌, length, IfOk};
 ghost use Rattle.layout.specs.Refusal.{first};
-ghost use Rattle.layout.specs.Head.{fault_row};
-ghost use Rattle.night_log.specs.Bytes.{packed_size, outcome_in};
+ghost use Rattle.layout.specs.Refused.{says};
+ghost use Rattle.night_log.specs.Bytes.{packed_size, count_of, outcome_in};
 ghost use Rattle.night_log.specs.Rows.{log_rows};
 ghost use Rattle.night_log.specs.Read.{OpenedAs, ReadAs};
 
@@ -14,29 +14,9 @@ mod reader;
 mod write;
 
 pub use judge::judge_log;
+use layout::Refused;
 pub use reader::LogReader;
 pub use write::write_log;
-
-#[derive(Clone, Copy)]
-pub enum OpenAnswer {
-    Opened,
-    Refused { number: u8, at: usize },
-}
-
-#[derive(Clone, Copy)]
-pub enum LogAnswer {
-    Miss,
-    Hit,
-    End,
-    Refused { number: u8, at: usize },
-}
-
-// What a call of the reader gives, and the place where the reader then stands: how many outcomes were handed out.
-#[derive(Clone, Copy)]
-pub struct LogRead {
-    pub answer: LogAnswer,
-    pub place: usize,
-}
 
 // How many bytes so many outcomes take.
 fn packed_size(count: usize) -> usize
@@ -54,25 +34,23 @@ fn low_bits(byte: u8, n: usize) -> u8
     byte & ((1 << n) - 1)
 }
 
-// Tests 15 and then 16: 0, or the number.
-fn fault(log: &[u8]) -> u8
-    ensures { first (log_rows log.now) ≡ fault_row result 0 }
+// Tests 15 and then 16, and says how many outcomes the log holds.
+fn check_log(log: &[u8]) -> Result<usize, Refused>
+    ensures refusal { says result ≡ first (log_rows log.now) }
+    ensures count { IfOk result (λ n. (n ≡ count_of log.now) × (n < 4294967296)) }
 {
-    let number = layout::head_fault(log, 9, 1, 15, 15);
-    if number != 0 {
-        return number;
+    if layout::check_head(log, 9, 1).is_err() {
+        return Err(Refused::Log); // a length and a version alike
     }
     let count = layout::four_at(log, 5);
     let size = packed_size(count);
-    let rest = layout::length_field(log);
-    if rest != 5 + size {
-        return 15;
+    if layout::length_field(log) != 5 + size {
+        return Err(Refused::Log); // not the bytes that the count takes
     }
-    let unused = low_bits(log[8 + size], 8 * size - count);
-    if unused != 0 {
-        return 16;
+    if low_bits(log[8 + size], 8 * size - count) != 0 {
+        return Err(Refused::UnusedBits);
     }
-    0
+    Ok(count)
 }
 
 // Outcome i of the packed bytes.
@@ -84,41 +62,22 @@ fn outcome_in(log: &[u8], i: usize) -> bool
 }
 
 // Whether the bytes are a log.
-pub fn open_log(log: &[u8]) -> OpenAnswer
+pub fn open_log(log: &[u8]) -> Result<(), Refused>
     ensures { OpenedAs log.now result }
 {
-    let number = fault(log);
-    if number != 0 {
-        return OpenAnswer::Refused { number, at: 0 };
-    }
-    OpenAnswer::Opened
+    check_log(log)?;
+    Ok(())
 }
 
-// The outcome at a place, or the end; a refusal and the end keep the place.
-pub fn read_log(log: &[u8], place: usize) -> LogRead
-    ensures { ReadAs log.now place result }
+// The outcome at a place, which moves on by one, or none past the last one; the end and a refusal keep the place.
+pub fn read_log(log: &[u8], place: &mut usize) -> Result<Option<bool>, Refused>
+    ensures { ReadAs log.now place.old result place.new }
 {
-    let number = fault(log);
-    if number != 0 {
-        return LogRead {
-            answer: LogAnswer::Refused { number, at: 0 },
-            place, // a refusal keeps it
-        };
+    let count = check_log(log)?;
+    let at = *place;
+    if count <= at {
+        return Ok(None);
     }
-    if layout::four_at(log, 5) <= place {
-        return LogRead {
-            answer: LogAnswer::End,
-            place, // and so does the end
-        };
-    }
-    if outcome_in(log, place) {
-        return LogRead {
-            answer: LogAnswer::Hit,
-            place: place + 1,
-        };
-    }
-    LogRead {
-        answer: LogAnswer::Miss,
-        place: place + 1,
-    }
+    *place = at + 1;
+    Ok(Some(outcome_in(log, at)))
 }

@@ -2,14 +2,15 @@
 // Opening and each call refuse by 15, then by 16, and a refusal keeps the place.
 ghost use Rattle.night_log.specs.Reader.{ReaderOpenedAs, NextAs};
 
-use super::{LogAnswer, OpenAnswer, open_log, read_log};
+use super::{open_log, read_log};
+use layout::Refused;
 
 // `opened` is what opening answered.
 #[derive(Clone, Copy)]
 pub struct LogReader<'a> {
     pub log: &'a [u8],
     pub place: usize,
-    pub opened: OpenAnswer,
+    pub opened: Result<(), Refused>,
 }
 
 impl<'a> LogReader<'a> {
@@ -23,11 +24,9 @@ impl<'a> LogReader<'a> {
         }
     }
 
-    pub fn next<'s>(&'s mut self) -> LogAnswer
+    pub fn next<'s>(&'s mut self) -> Result<Option<bool>, Refused>
         ensures { NextAs self.old self.new result }
     {
-        let read = read_log(self.log, self.place);
-        self.place = read.place;
-        read.answer
+        read_log(self.log, &mut self.place)
     }
 }

@@ -6,7 +6,7 @@ ghost use Rattle.night_log.specs.Bytes.{packed_size, size_of, outcome_at, byte_f
 ghost use Rattle.night_log.specs.Write.{LogWrittenAs};
 
 use super::packed_size;
-use layout::WriteAnswer;
+use layout::Refused;
 
 // The most outcomes that the four bytes of a count can say.
 const MOST_OUTCOMES: usize = 4294967295;
@@ -85,37 +85,27 @@ fn put_outcomes(pattern: &[u8], out: &mut [u8])
     requires { (length pattern.now < 4294967296) × (size_of (length pattern.now) ≤ length out.old) × AllOutcomes pattern.now }
     ensures { out.new ≡ take 9 out.old ++ packed (outcomes pattern.now) 0 (packed_size (length pattern.now)) ++ drop (size_of (length pattern.now)) out.old }
 {
-    let size = packed_size(pattern.len());
-    let mut j = 0;
-    while j < size {
+    for j in 0..packed_size(pattern.len()) {
         out[9 + j] = byte_from(pattern, 8 * j);
-        j += 1;
     }
 }
 
 // Writes the log of a pattern at the start of `out`, and says how many bytes it took.
-pub fn write_log(pattern: &[u8], out: &mut [u8]) -> WriteAnswer
+pub fn write_log(pattern: &[u8], out: &mut [u8]) -> Result<usize, Refused>
     ensures { LogWrittenAs pattern.now out.old out.new result }
 {
     let count = pattern.len();
     if MOST_OUTCOMES < count {
-        return WriteAnswer::Refused { number: 15, at: 0 };
+        return Err(Refused::Log);
     }
-    let bad = patterns::first_bad(pattern);
-    if bad < count {
-        return WriteAnswer::Refused {
-            number: 13,
-            at: bad,
-        };
+    if let Some(place) = patterns::first_bad(pattern) {
+        return Err(Refused::Outcome { place });
     }
-    let size = 9 + packed_size(count);
-    if out.len() < size {
-        return WriteAnswer::Refused {
-            number: 9,
-            at: size,
-        };
+    let needed = 9 + packed_size(count);
+    if out.len() < needed {
+        return Err(Refused::Room { needed });
     }
     put_head(out, count);
     put_outcomes(pattern, out);
-    WriteAnswer::Written(size)
+    Ok(needed)
 }
