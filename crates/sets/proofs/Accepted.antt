@@ -23,7 +23,7 @@ use Rattle.sets.specs.Bytes.{count_of, set_of}
 use Rattle.sets.specs.Rows.{k_outside, x_outside, limit_rows, limits_rows, limits_nothing, nothing_row, test_rows, head_rows, set_rows, memory_rows}
 
 -- from 1 to w: a count, the k of kinds 0, 1 and 2, the x of kind 3
-within : (w n : ℕ) → (eqb n 0 || ltb w n) ≡ false → (1 ≤ n) × (n ≤ w)
+pub within : (w n : ℕ) → (eqb n 0 || ltb w n) ≡ false → (1 ≤ n) × (n ≤ w)
 within w n e =
     let (a, b) = or_none (eqb n 0) (ltb w n) e in
     let z : n ≡ 0 → ⊥ = eqb-false n 0 a in

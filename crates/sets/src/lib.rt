@@ -2,13 +2,13 @@
 // Reading refuses by 1 to 7 and then by 21; writing a set that is already in memory by 3, 5, 6, 7, 21 and then by 9.
 #![tactic(auto)]
 
-ghost use Rattle.std.specs.Prelude.{◌≡◌, ◌&&◌, ◌+◌, ◌*◌, ◌≤◌, length};
+ghost use Rattle.std.specs.Prelude.{◌≡◌, ◌&&◌, ◌+◌, ◌*◌, ◌≤◌, [], ◌∷◌, length};
 ghost use Rattle.layout.specs.Refusal.{first};
 ghost use Rattle.layout.specs.Refused.{says};
 ghost use Rattle.meaning.specs.Longest.{longest};
 ghost use Rattle.meaning.specs.Limit.{rule_of};
 ghost use Rattle.meaning.specs.Test.{idle};
-ghost use Rattle.sets.specs.Rows.{limit_rows, test_rows, head_rows};
+ghost use Rattle.sets.specs.Rows.{limit_rows, count_row, test_rows, head_rows};
 ghost use Rattle.sets.specs.Bytes.{set_of, count_of};
 ghost use Rattle.sets.specs.Read.{ReadAs};
 
@@ -80,6 +80,17 @@ fn test_limits(set: LimitSet, widest: u8) -> Result<(), Refused>
     Ok(())
 }
 
+// Tests 3, the count of a set.
+#[tactic(auto, using(crate::proofs::Turns::tests), unfolding(layout::specs::Refusal::first))]
+fn test_count(count: usize) -> Result<(), Refused>
+    ensures { says result ≡ first (count_row count ∷ []) }
+{
+    if !(1..=8).contains(&count) {
+        return Err(Refused::LimitCount);
+    }
+    Ok(())
+}
+
 // Tests 1 to 4.
 fn test_head(bytes: &[u8]) -> Result<(), Refused>
     ensures { says result ≡ first (head_rows bytes.now) }
@@ -91,12 +102,7 @@ fn test_head(bytes: &[u8]) -> Result<(), Refused>
     }
     let rest = layout::length_field(bytes);
     let count = layout::wide(bytes[5]);
-    if count == 0 {
-        return Err(Refused::LimitCount);
-    }
-    if 8 < count {
-        return Err(Refused::LimitCount);
-    }
+    test_count(count)?;
     if rest != 2 + 3 * count {
         return Err(Refused::LimitsLength);
     }

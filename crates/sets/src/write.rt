@@ -8,22 +8,15 @@ ghost use Rattle.sets.specs.Bytes.{head_bytes, bytes_of_limit, limit_bytes};
 ghost use Rattle.sets.specs.Rows.{memory_rows};
 ghost use Rattle.sets.specs.Write.{size_of, WrittenAs};
 
-use super::test_limits;
+use super::{test_count, test_limits};
 use layout::Refused;
 use meaning::{Limit, LimitSet};
 
 // Tests 3, then 5, 6, 7 of each limit, and then 21.
-#[tactic(auto, using(crate::proofs::Turns::tests), unfolding(layout::specs::Refusal::first))]
 fn test_memory(set: LimitSet, widest: u8) -> Result<(), Refused>
     ensures { says result ≡ first (memory_rows widest set) }
 {
-    let count = set.count;
-    if count == 0 {
-        return Err(Refused::LimitCount);
-    }
-    if 8 < count {
-        return Err(Refused::LimitCount);
-    }
+    test_count(set.count)?;
     test_limits(set, widest)
 }
 

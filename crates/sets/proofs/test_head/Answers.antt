@@ -6,7 +6,8 @@ use Prim.Native.Nat.{ℕ, ◌+◌, ◌*◌, ◌≤◌}
 use native.Mathlib.Omega.{arith}
 use lib.Dec.{eqb}
 use lib.ListN.{length}
-use Rattle.layout.specs.Refusal.{row, Tested, first}
+use Rattle.std.proofs.lemmas.Result.{err_from_is_err_and}
+use Rattle.layout.specs.Refusal.{Row, row, Tested, first}
 use Rattle.layout.specs.Head.{head_rows as opening_rows}
 use Rattle.layout.proofs.Head.{head_passed}
 use Rattle.layout.proofs.Rows.{refused_before, passed_before}
@@ -16,8 +17,11 @@ use Rattle.sets.proofs.test_head.Goals.{After-wide-count, In-Ok}
 use Rattle.sets.proofs.test_head.Goals as goal
 
 -- tests 3 and 4 over the numbers that were read
+abbrev length_row : (rest count : ℕ) → Row
+length_row rest count = row 4 (not (eqb rest (2 + 3 * count))) 0
+
 abbrev count_over : (rest count : ℕ) → Tested
-count_over rest count = first (count_row count ∷ row 4 (not (eqb rest (2 + 3 * count))) 0 ∷ [])
+count_over rest count = first (count_row count ∷ length_row rest count ∷ [])
 
 -- the head was passed
 long : (c : In-Ok) → 6 ≤ length c.args.bytes.now
@@ -44,18 +48,24 @@ length_field-rest-requires c = omega (arith, long (goal.at.length_field-rest-req
 pub bounds-bytes-5 : goal.bounds-bytes-5
 bounds-bytes-5 c = omega (arith, long (goal.at.bounds-bytes-5 c).In-Ok)
 
-pub returns-then-count-eq0 : goal.returns-then-count-eq0
-unfolding first
-returns-then-count-eq0 c = search tests ∙ at_count (goal.at.returns-then-count-eq0 c).After-wide-count
-
-pub returns-then-count-gt8 : goal.returns-then-count-gt8
-unfolding first
-returns-then-count-gt8 c = search tests ∙ at_count (goal.at.returns-then-count-gt8 c).After-wide-count
+pub returns-in_err-test_count : goal.returns-in_err-test_count
+returns-in_err-test_count c =
+    let p = err_from_is_err_and c.from_residual.result c.from_residual.ensures.1 in
+    rw (p.1, p.2)
+    (sym (refused_before (count_row c.wide-count.result ∷ []) _ (sym c.in_err-test_count.ensures)) ∙ at_count (goal.at.returns-in_err-test_count c).After-wide-count)
 
 pub returns-then-rest-count : goal.returns-then-rest-count
 unfolding first
-returns-then-rest-count c = search tests ∙ at_count (goal.at.returns-then-rest-count c).After-wide-count
+returns-then-rest-count c =
+    let count = c.wide-count.result in
+    search tests
+    ∙ sym (passed_before (count_row count ∷ []) (length_row c.length_field-rest.result count ∷ []) (sym c.in_ok-test_count.ensures))
+    ∙ at_count (goal.at.returns-then-rest-count c).After-wide-count
 
 pub returns : goal.returns
 unfolding first
-returns c = search tests ∙ at_count (goal.at.returns c).After-wide-count
+returns c =
+    let count = c.wide-count.result in
+    search tests
+    ∙ sym (passed_before (count_row count ∷ []) (length_row c.length_field-rest.result count ∷ []) (sym c.in_ok-test_count.ensures))
+    ∙ at_count (goal.at.returns c).After-wide-count
