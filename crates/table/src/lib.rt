@@ -2,12 +2,12 @@
 // Refuses by 10, 11 and 12, in that order.
 #![tactic(auto)]
 
-ghost use Rattle.std.specs.Prelude.{◌≡◌, ◌+◌, ◌*◌, ◌≤◌, ◌<◌, length};
+ghost use Rattle.std.specs.Prelude.{◌≡◌, ◌+◌, ◌*◌, ◌≤◌, ◌<◌, length, IfOk};
 ghost use Rattle.layout.specs.Refusal.{first};
 ghost use Rattle.layout.specs.Refused.{says};
 ghost use Rattle.table.specs.Bytes.{pair_at, state_count};
 ghost use Rattle.table.specs.Rows.{count_rows, entry_rows, entries_rows};
-ghost use Rattle.table.specs.Check.{Counts, CheckedAs, miss_by, Shows, LookedAs};
+ghost use Rattle.table.specs.Check.{CheckedAs, miss_by, Shows, LookedAs};
 
 use layout::{HeadFault, Refused};
 
@@ -42,74 +42,85 @@ fn miss_of(entry: u16) -> Option<u16>
     Some(entry)
 }
 
-// Tests 10, 11 and the counts in 12; else how many states there are.
-fn test_counts(bytes: &[u8]) -> Result<usize, Refused>
-    ensures { (says result ≡ first (count_rows bytes.now)) × Counts bytes.now result }
-{
-    match layout::check_head(bytes, 7, 1) {
-        Err(HeadFault::Length) => return Err(Refused::TableLength),
-        Err(HeadFault::Version) => return Err(Refused::TableVersion),
-        Ok(()) => {}
-    }
-    let rest = layout::length_field(bytes);
-    let n = pair(bytes, 5) as usize;
-    if n == 0 {
-        return Err(Refused::States);
-    }
-    if MOST_STATES < n {
-        return Err(Refused::States);
-    }
-    if rest != 3 + 4 * n {
-        return Err(Refused::States);
-    }
-    Ok(n)
+// The entries of a table whose counts were tested.
+#[derive(Clone, Copy)]
+struct Entries<'a> {
+    bytes: &'a [u8],
+    states: usize,
+    ghost counted: { states ≡ state_count bytes.now },
+    ghost within: { 7 + 4 * states ≤ length bytes.now },
 }
 
-// The entry of one state, tested.
-fn entry_of(bytes: &[u8], n: usize, state: usize) -> Result<Moves, Refused>
-    requires { (n ≡ state_count bytes.now) × (state < n) × (7 + 4 * n ≤ length bytes.now) }
-    ensures { (says result ≡ first (entry_rows bytes.now state)) × Shows bytes.now state result }
-{
-    let miss = miss_of(pair(bytes, 7 + 4 * state));
-    let hit = pair(bytes, 9 + 4 * state);
-    if let Some(next) = miss {
-        if n <= next as usize {
+impl<'a> Entries<'a> {
+    // Tests 10, 11 and the counts in 12.
+    fn of(bytes: &'a [u8]) -> Result<Entries<'a>, Refused>
+        ensures { (says result ≡ first (count_rows bytes.now)) × IfOk result (λ entries. entries.bytes.now ≡ bytes.now) }
+    {
+        match layout::check_head(bytes, 7, 1) {
+            Err(HeadFault::Length) => return Err(Refused::TableLength),
+            Err(HeadFault::Version) => return Err(Refused::TableVersion),
+            Ok(()) => {}
+        }
+        let rest = layout::length_field(bytes);
+        let states = pair(bytes, 5) as usize;
+        if states == 0 {
             return Err(Refused::States);
         }
+        if MOST_STATES < states {
+            return Err(Refused::States);
+        }
+        if rest != 3 + 4 * states {
+            return Err(Refused::States);
+        }
+        Ok(Entries { bytes, states })
     }
-    if n <= hit as usize {
-        return Err(Refused::States);
-    }
-    Ok(Moves { miss, hit })
-}
 
-// The entries of all states, first to last; else how many states there are.
-fn test_entries(bytes: &[u8], n: usize) -> Result<usize, Refused>
-    requires { (n ≡ state_count bytes.now) × (7 + 4 * n ≤ length bytes.now) }
-    ensures { (says result ≡ first (entries_rows bytes.now 0 n)) × Counts bytes.now result }
-{
-    for state in 0..n {
-        entry_of(bytes, n, state)?;
+    // The moves of one state, tested.
+    fn moves(self, state: usize) -> Result<Moves, Refused>
+        requires { state < self.states }
+        ensures { (says result ≡ first (entry_rows self.entry.bytes.now state)) × Shows self.entry.bytes.now state result }
+    {
+        let miss = miss_of(pair(self.bytes, 7 + 4 * state));
+        let hit = pair(self.bytes, 9 + 4 * state);
+        if let Some(next) = miss {
+            if self.states <= next as usize {
+                return Err(Refused::States);
+            }
+        }
+        if self.states <= hit as usize {
+            return Err(Refused::States);
+        }
+        Ok(Moves { miss, hit })
     }
-    Ok(n)
+
+    // The entries of all states, first to last.
+    fn test(self) -> Result<(), Refused>
+        ensures { says result ≡ first (entries_rows self.entry.bytes.now 0 self.entry.states) }
+    {
+        for state in 0..self.states {
+            self.moves(state)?;
+        }
+        Ok(())
+    }
 }
 
 // The whole table, tested in one pass; else the count of its states.
 pub fn check_table(bytes: &[u8]) -> Result<usize, Refused>
     ensures { CheckedAs bytes.now result }
 {
-    let n = test_counts(bytes)?;
-    test_entries(bytes, n)
+    let entries = Entries::of(bytes)?;
+    entries.test()?;
+    Ok(entries.states)
 }
 
 // The moves of one state, with a test of the counts and of that state's entry only.
 pub fn look(bytes: &[u8], state: u16) -> Result<Moves, Refused>
     ensures { LookedAs bytes.now state result }
 {
-    let n = test_counts(bytes)?;
+    let entries = Entries::of(bytes)?;
     let state = state as usize;
-    if n <= state {
+    if entries.states <= state {
         return Err(Refused::States);
     }
-    entry_of(bytes, n, state)
+    entries.moves(state)
 }

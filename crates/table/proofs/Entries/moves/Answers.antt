@@ -1,4 +1,4 @@
--- `table::entry_of`: the two pairs are tested one after the other. Assumes nothing.
+-- `Entries::moves`: the two pairs are tested one after the other. Assumes nothing.
 use mathlib.Core.Path.{◌≡◌, sym, ap, ap₂, ◌∙◌}
 use mathlib.Core.Logic.{dite}
 use mathlib.Core.Bool.{not, ◌&&◌, and-false}
@@ -14,8 +14,8 @@ use Rattle.table.specs.Bytes.{no_miss, state_count, miss_entry, hit_entry}
 use Rattle.table.specs.Rows.{entry_rows}
 use Rattle.table.specs.declared.Moves.{Moves}
 use Rattle.table.specs.Check.{miss_by}
-use Rattle.table.proofs.entry_of.Goals.{After-pair-hit, Joined-miss, in-Some+else-n-next, in_default}
-use Rattle.table.proofs.entry_of.Goals as goal
+use Rattle.table.proofs.Entries.moves.Goals.{After-pair-hit, Joined-miss, in-Some+else-self-next, in_default}
+use Rattle.table.proofs.Entries.moves.Goals as goal
 
 ruleset tests = (le-leb, lt-leb, eq-eqb, ne_eqb, and-false)
 
@@ -25,12 +25,12 @@ entry_over n miss hit = first (row 12 (leb n miss && not (eqb miss no_miss)) 0 �
 
 at_entry : (c : After-pair-hit) →
     let a = c.args in
-    let b = a.bytes.now in
-    entry_over a.n c.pair.result c.pair-hit.result ≡ first (entry_rows b a.state)
+    let b = a.self.bytes.now in
+    entry_over a.self.states c.pair.result c.pair-hit.result ≡ first (entry_rows b a.state)
 at_entry c =
-    let e : c.args.n ≡ state_count c.args.bytes.now = c.requires.0 in
-    let f : c.pair.result ≡ miss_entry c.args.bytes.now c.args.state = c.pair.ensures in
-    let g : c.pair-hit.result ≡ hit_entry c.args.bytes.now c.args.state = c.pair-hit.ensures in
+    let e : c.args.self.states ≡ state_count c.args.self.bytes.now = c.args.self.counted in
+    let f : c.pair.result ≡ miss_entry c.args.self.bytes.now c.args.state = c.pair.ensures in
+    let g : c.pair-hit.result ≡ hit_entry c.args.self.bytes.now c.args.state = c.pair-hit.ensures in
     rw (e, f, g)
 
 module _ (n miss hit : ℕ) where
@@ -50,28 +50,28 @@ module _ (n miss hit : ℕ) where
       (λ q. search tests)
       (λ q. let h : miss < n = k miss (rw (ne_eqb _ _ q)) in search tests)
 
-pub returns-then-n-next : goal.returns-then-n-next
-returns-then-n-next c =
-    (miss_above c.args.n c.pair.result c.pair-hit.result c.in-Some.next (sym c.miss_of-miss.ensures ∙ c.in-Some.is) c.if-n-next.true ∙ at_entry (goal.at.returns-then-n-next c).After-pair-hit, tt)
+pub returns-then-self-next : goal.returns-then-self-next
+returns-then-self-next c =
+    (miss_above c.args.self.states c.pair.result c.pair-hit.result c.in-Some.next (sym c.miss_of-miss.ensures ∙ c.in-Some.is) c.if-self-next.true ∙ at_entry (goal.at.returns-then-self-next c).After-pair-hit, tt)
 
 -- where the miss was passed
-kept : (c : Joined-miss) → (c.match-miss.miss ≡ miss_by c.pair.result) × ((t : ℕ) → miss_by c.pair.result ≡ Some t → t < c.args.n)
+kept : (c : Joined-miss) → (c.match-miss.miss ≡ miss_by c.pair.result) × ((t : ℕ) → miss_by c.pair.result ≡ Some t → t < c.args.self.states)
 kept c =
     elim c.match-miss.branch [
-      | in-Some+else-n-next w ↦ (w.miss-is ∙ sym w.in-Some.is ∙ c.miss_of-miss.ensures, λ t e. let q : w.in-Some.next ≡ t = cc in omega arith)
+      | in-Some+else-self-next w ↦ (w.miss-is ∙ sym w.in-Some.is ∙ c.miss_of-miss.ensures, λ t e. let q : w.in-Some.next ≡ t = cc in omega arith)
       | in_default w ↦ (w.miss-is ∙ c.miss_of-miss.ensures, λ t e. absurd (w.in_default.not-Some t (c.miss_of-miss.ensures ∙ e)))
     ]
 
-pub returns-then-n-hit : goal.returns-then-n-hit
+pub returns-then-self-hit : goal.returns-then-self-hit
 unfolding first
-returns-then-n-hit c =
-    let (_, k) = kept (goal.at.returns-then-n-hit c).Joined-miss in
-    ((search tests) ∙ sym (miss_below c.args.n c.pair.result c.pair-hit.result k) ∙ at_entry (goal.at.returns-then-n-hit c).After-pair-hit, tt)
+returns-then-self-hit c =
+    let (_, k) = kept (goal.at.returns-then-self-hit c).Joined-miss in
+    ((search tests) ∙ sym (miss_below c.args.self.states c.pair.result c.pair-hit.result k) ∙ at_entry (goal.at.returns-then-self-hit c).After-pair-hit, tt)
 
 pub returns : goal.returns
 unfolding first
 returns c =
     let (e, k) = kept (goal.at.returns c).Joined-miss in (
-      (search tests) ∙ sym (miss_below c.args.n c.pair.result c.pair-hit.result k) ∙ at_entry (goal.at.returns c).After-pair-hit,
+      (search tests) ∙ sym (miss_below c.args.self.states c.pair.result c.pair-hit.result k) ∙ at_entry (goal.at.returns c).After-pair-hit,
       ap₂ {C = Moves} (λ m h. record { miss = m; hit = h }) (e ∙ ap miss_by c.pair.ensures) c.pair-hit.ensures,
     )
