@@ -11,63 +11,80 @@ use layout::Refused;
 // The most outcomes that the four bytes of a count can say.
 const MOST_OUTCOMES: usize = 4294967295;
 
-// The bit of outcome i.
-fn bit_in(pattern: &[u8], i: usize) -> u8
-    requires { (i < length pattern.now) × AllOutcomes pattern.now }
-    ensures { (result ≡ bit (outcome_at (outcomes pattern.now) i)) × (result ≤ 1) }
-{
-    pattern[i]
+// A pattern of which every byte is an outcome, and that a count of four bytes can say.
+#[derive(Clone, Copy)]
+struct Checked<'a> {
+    pattern: &'a [u8],
+    ghost all: { AllOutcomes pattern.now },
+    ghost few: { length pattern.now < 4294967296 },
 }
 
-// The number that four outcomes write. Sums of weights, and no chain of doublings: the processor adds them side by side.
-fn half_byte(pattern: &[u8], i: usize) -> u8
-    requires { (i + 4 ≤ length pattern.now) × AllOutcomes pattern.now }
-    ensures { (result ≡ half_from (outcomes pattern.now) i) × (result < 16) }
-{
-    bit_in(pattern, i) * 8
-        + bit_in(pattern, i + 1) * 4
-        + bit_in(pattern, i + 2) * 2
-        + bit_in(pattern, i + 3)
-}
-
-// The byte of eight outcomes.
-fn full_byte(pattern: &[u8], i: usize) -> u8
-    requires { (i + 8 ≤ length pattern.now) × AllOutcomes pattern.now }
-    ensures { result ≡ byte_from (outcomes pattern.now) i }
-{
-    half_byte(pattern, i) * 16 + half_byte(pattern, i + 4)
-}
-
-// The bit of outcome i, 0 past the last one.
-fn bit_at(pattern: &[u8], i: usize) -> u8
-    ensures { (result ≡ bit (outcome_at (outcomes pattern.now) i)) × (result ≤ 1) }
-{
-    if i < pattern.len() {
-        return (pattern[i] != 0) as u8;
+impl<'a> Checked<'a> {
+    // The bit of outcome i.
+    fn bit_in(self, i: usize) -> u8
+        requires { i < length self.pattern.now }
+        ensures { (result ≡ bit (outcome_at (outcomes self.entry.pattern.now) i)) × (result ≤ 1) }
+    {
+        self.pattern[i]
     }
-    0
-}
 
-// The byte of the outcomes from outcome i on where fewer than eight may be left.
-fn last_byte(pattern: &[u8], i: usize) -> u8
-    requires { i < 4294967296 }
-    ensures { result ≡ byte_from (outcomes pattern.now) i }
-{
-    let mut byte = 0;
-    for k in 0..8 {
-        byte = byte * 2 + bit_at(pattern, i + k);
+    // The number that four outcomes write. Sums of weights, and no chain of doublings: the processor adds them side by side.
+    fn half_byte(self, i: usize) -> u8
+        requires { i + 4 ≤ length self.pattern.now }
+        ensures { (result ≡ half_from (outcomes self.entry.pattern.now) i) × (result < 16) }
+    {
+        self.bit_in(i) * 8 + self.bit_in(i + 1) * 4 + self.bit_in(i + 2) * 2 + self.bit_in(i + 3)
     }
-    byte
-}
 
-fn byte_from(pattern: &[u8], i: usize) -> u8
-    requires { (i < 4294967296) × AllOutcomes pattern.now }
-    ensures { result ≡ byte_from (outcomes pattern.now) i }
-{
-    if i + 8 <= pattern.len() {
-        return full_byte(pattern, i);
+    // The byte of eight outcomes.
+    fn full_byte(self, i: usize) -> u8
+        requires { i + 8 ≤ length self.pattern.now }
+        ensures { result ≡ byte_from (outcomes self.entry.pattern.now) i }
+    {
+        self.half_byte(i) * 16 + self.half_byte(i + 4)
     }
-    last_byte(pattern, i)
+
+    // The bit of outcome i, 0 past the last one.
+    fn bit_at(self, i: usize) -> u8
+        ensures { (result ≡ bit (outcome_at (outcomes self.entry.pattern.now) i)) × (result ≤ 1) }
+    {
+        if i < self.pattern.len() {
+            return self.bit_in(i);
+        }
+        0
+    }
+
+    // The byte of the outcomes from outcome i on where fewer than eight may be left.
+    fn last_byte(self, i: usize) -> u8
+        requires { i < 4294967296 }
+        ensures { result ≡ byte_from (outcomes self.entry.pattern.now) i }
+    {
+        let mut byte = 0;
+        for k in 0..8 {
+            byte = byte * 2 + self.bit_at(i + k);
+        }
+        byte
+    }
+
+    fn byte_from(self, i: usize) -> u8
+        requires { i < 4294967296 }
+        ensures { result ≡ byte_from (outcomes self.entry.pattern.now) i }
+    {
+        if i + 8 <= self.pattern.len() {
+            return self.full_byte(i);
+        }
+        self.last_byte(i)
+    }
+
+    // Writes the outcomes, from byte 9 on.
+    fn put_outcomes(self, out: &mut [u8])
+        requires { size_of (length self.pattern.now) ≤ length out.old }
+        ensures { out.new ≡ take 9 out.old ++ packed (outcomes self.entry.pattern.now) 0 (packed_size (length self.entry.pattern.now)) ++ drop (size_of (length self.entry.pattern.now)) out.old }
+    {
+        for j in 0..packed_size(self.pattern.len()) {
+            out[9 + j] = self.byte_from(8 * j);
+        }
+    }
 }
 
 // The length field, the version and the count.
@@ -78,16 +95,6 @@ fn put_head(out: &mut [u8], count: usize)
     layout::put_four(out, 0, 5 + packed_size(count));
     out[4] = 1;
     layout::put_four(out, 5, count);
-}
-
-// The outcomes, from byte 9 on.
-fn put_outcomes(pattern: &[u8], out: &mut [u8])
-    requires { (length pattern.now < 4294967296) × (size_of (length pattern.now) ≤ length out.old) × AllOutcomes pattern.now }
-    ensures { out.new ≡ take 9 out.old ++ packed (outcomes pattern.now) 0 (packed_size (length pattern.now)) ++ drop (size_of (length pattern.now)) out.old }
-{
-    for j in 0..packed_size(pattern.len()) {
-        out[9 + j] = byte_from(pattern, 8 * j);
-    }
 }
 
 // Writes the log of a pattern at the start of `out`, and says how many bytes it took.
@@ -101,11 +108,12 @@ pub fn write_log(pattern: &[u8], out: &mut [u8]) -> Result<usize, Refused>
     if let Some(place) = patterns::first_bad(pattern) {
         return Err(Refused::Outcome { place });
     }
+    let checked = Checked { pattern };
     let needed = 9 + packed_size(count);
     if out.len() < needed {
         return Err(Refused::Room { needed });
     }
     put_head(out, count);
-    put_outcomes(pattern, out);
+    checked.put_outcomes(out);
     Ok(needed)
 }

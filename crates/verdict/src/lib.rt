@@ -24,6 +24,7 @@ pub struct Loss {
 }
 
 // What every judge does at each outcome: a hit keeps, and a miss is looked at. The history that is left, or the limit that blocks the miss.
+// That the set is allowed stays a clause of each function here: they are public, and take a set as it lies in memory.
 #[inline] // so that a hit makes no call in the loop over the outcomes
 pub fn take_turn(set: LimitSet, history: u16, hit: bool) -> Result<u16, usize>
     requires { SetAllowed longest set × (history < 2 ^ (longest - 1)) }
@@ -61,6 +62,7 @@ pub fn lost_by(set: LimitSet, history: u16, before: usize, limit: usize) -> Loss
 }
 
 // One pass over so many outcomes, each asked for in its turn: kept, or where they are lost.
+#[inline(never)] // so that the set is copied at no outcome
 pub fn judge_each<F: Fn(usize) -> bool>(set: LimitSet, count: usize, outcome: F) -> Option<Loss>
     requires allowed { SetAllowed longest set }
     requires jobs { count ≤ most_jobs }

@@ -66,16 +66,17 @@ returns-then-out-needed c =
     written s.pattern.now s.out.now (refused 9 n) _ _
     (at_room at.In_default ∙ too_short 9 n (length s.out.now) n (omega (arith, d, c.if-out-needed.true))) (ap (refused 9) d) refl refl
 
+pub invariant_of-checked : goal.invariant_of-checked
+invariant_of-checked c = record {
+  all = (outcomes_passed c.args.pattern.now 0).0 c.in_default.ensures.tested;
+  few = omega (arith, few (goal.at.invariant_of-checked c).In_default);
+}
+
 pub put_head-requires : goal.put_head-requires
 put_head-requires c = (omega (arith, few (goal.at.put_head-requires c).In_default), omega (arith, c.if-out-needed.false))
 
 pub put_outcomes-requires : goal.put_outcomes-requires
-put_outcomes-requires c =
-    let at = goal.at.put_outcomes-requires c in (
-      omega (arith, few at.In_default),
-      omega (arith, sized at.After-packed_size-needed, c.if-out-needed.false, c.put_head.auto.out),
-      (outcomes_passed c.args.pattern.now 0).0 c.in_default.ensures.tested,
-    )
+put_outcomes-requires c = omega (arith, sized (goal.at.put_outcomes-requires c).After-packed_size-needed, c.if-out-needed.false, c.put_head.auto.out)
 
 pub returns : goal.returns
 unfolding first
