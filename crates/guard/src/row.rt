@@ -9,7 +9,8 @@ use layout::Refused;
 // The most guards of a row.
 pub const MOST_GUARDS: usize = 16;
 
-// Whether a row of so many guards has no guard of that job number.
+// Whether a row of so many guards has no guard of that job number. A function of its own, since `asks_refuses` of
+// proofs/row/Walk.antt speaks of it.
 fn refuses(count: usize, job: usize) -> bool
     ensures { (result ≡ outside count job) × (result ≡ false → (job < count) × (job < most_guards)) }
 {
