@@ -6,7 +6,7 @@ use Prim.Native.Nat.{ℕ, suc, ◌+◌, ◌-◌, ◌≤◌, ◌<◌}
 use native.Mathlib.Nat.{add_comm, zero-add}
 use native.Mathlib.Omega.{arith}
 use lib.ListN.{length, get_or, drop, set, length-append, length-drop}
-use lib.Seq.{take_all, drop-cons, drop-drop, drop-length, drop-append-le, drop-append_seam, get_or-drop, set-set, set_at, paste, paste-zero, paste-suc}
+use lib.Seq.{take_all, drop-cons, drop-drop, drop-length, drop-append-le, drop-append_seam, get_or-drop, set-set, set_at, paste, paste-suc}
 use Rattle.guard.specs.Guard.{latest}
 
 pub latest_none : (os : List Bool) → latest os [] ≡ os
@@ -38,9 +38,6 @@ module _ (os : List Bool) (hit : Bool) where
   -- and the new outcome follows
   abbrev pub Followed : List Bool → ℕ → Type 0
   Followed after i = after ≡ set (up i) i hit
-
-  pub followed_none : Followed (set os 0 hit) 0
-  followed_none = ap (λ l. set l 0 hit) (paste-zero os 0 (drop 1 os))
 
   one_up : (i : ℕ) → i + 1 < length os → set (up i) i (get_or os (i + 1) false) ≡ up (i + 1)
   one_up i h =

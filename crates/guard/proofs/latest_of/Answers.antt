@@ -1,10 +1,7 @@
 -- `latest_of`: a copy of the outcomes in which each takes the place before it, and the new one follows. Assumes nothing.
 use native.Mathlib.Omega.{arith}
-use Rattle.guard.proofs.Latest.{followed_none, followed_one, followed_all}
+use Rattle.guard.proofs.Latest.{followed_one, followed_all}
 use Rattle.guard.proofs.latest_of.Goals as goal
-
-pub loop-i-init : goal.loop-i-init
-loop-i-init c = followed_none c.args.outcomes c.args.hit
 
 pub loop-i-preserved : goal.loop-i-preserved
 loop-i-preserved c =

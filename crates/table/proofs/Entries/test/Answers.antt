@@ -1,13 +1,9 @@
 -- `Entries::test`: the rows of all entries are those from the current state on. Assumes nothing.
 use mathlib.Core.Path.{sym, ◌∙◌}
-use native.Mathlib.Nat.{sub-zero}
 use native.Mathlib.Omega.{arith}
 use Rattle.std.proofs.lemmas.Result.{err_from_is_err_and}
 use Rattle.table.proofs.Turns.{entries_refused, entries_go_on, entries_end}
 use Rattle.table.proofs.Entries.test.Goals as goal
-
-pub loop-state-init : goal.loop-state-init
-loop-state-init c = rw sub-zero
 
 pub returns-in_err-moves : goal.returns-in_err-moves
 returns-in_err-moves c =
