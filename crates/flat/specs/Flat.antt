@@ -1,35 +1,17 @@
 -- Each answer as a flat record. It begins with `refused`, 0 or the number of RULES, Refusals, and `at`, the value beside that number, else 0.
-use Rattle.std.specs.Prelude.{◌≡◌, ℕ, pos}
-use Rattle.layout.specs.declared.WriteAnswer.{WriteAnswer}
-use Rattle.layout.specs.declared.WriteAnswer.TheVariants as written
-use Rattle.sets.specs.declared.SetAnswer.{SetAnswer}
-use Rattle.sets.specs.declared.SetAnswer.TheVariants as set
-use Rattle.sets.specs.declared.SetRead.{SetRead}
-use Rattle.verdict.specs.declared.Judgement.{Judgement}
-use Rattle.verdict.specs.declared.Judgement.TheVariants as verdict
-use Rattle.compare.specs.declared.CompareAnswer.{CompareAnswer}
-use Rattle.compare.specs.declared.CompareAnswer.TheVariants as comparison
-use Rattle.compare.specs.declared.Pattern.{Pattern}
-use Rattle.compare.specs.declared.Compared.{Compared}
+use Rattle.std.specs.Prelude.{◌≡◌, Bool, true, false, ℕ, pos, ⊤, Option, None, Some, Result, Ok, Err}
+use Rattle.layout.specs.declared.Refused.{Refused}
+use Rattle.layout.specs.Refused.{number_of, beside}
 use Rattle.meaning.specs.declared.LimitSet.{LimitSet}
-use Rattle.builder.specs.declared.BuildAnswer.{BuildAnswer}
-use Rattle.builder.specs.declared.BuildAnswer.TheVariants as built
-use Rattle.table.specs.declared.TableAnswer.{TableAnswer}
-use Rattle.table.specs.declared.TableAnswer.TheVariants as checked
-use Rattle.guard.specs.declared.StartAnswer.{StartAnswer}
-use Rattle.guard.specs.declared.StartAnswer.TheVariants as start
-use Rattle.guard.specs.declared.Started.{Started}
-use Rattle.guard.specs.declared.AskAnswer.{AskAnswer}
-use Rattle.guard.specs.declared.AskAnswer.TheVariants as ask
-use Rattle.guard.specs.declared.Asked.{Asked}
-use Rattle.guard.specs.declared.TellAnswer.{TellAnswer}
-use Rattle.guard.specs.declared.TellAnswer.TheVariants as tell
-use Rattle.guard.specs.declared.Told.{Told}
-use Rattle.night_log.specs.declared.OpenAnswer.{OpenAnswer}
-use Rattle.night_log.specs.declared.OpenAnswer.TheVariants as opening
-use Rattle.night_log.specs.declared.LogAnswer.{LogAnswer}
-use Rattle.night_log.specs.declared.LogAnswer.TheVariants as log
-use Rattle.night_log.specs.declared.LogRead.{LogRead}
+use Rattle.sets.specs.Bytes.{empty_set}
+use Rattle.verdict.specs.declared.Loss.{Loss}
+use Rattle.compare.specs.declared.Pattern.{Pattern}
+use Rattle.compare.specs.declared.RefusedSet.{RefusedSet}
+use Rattle.compare.specs.Compare.{which_of, why_of, pattern_in}
+use Rattle.guard.specs.declared.Guard.{Guard}
+use Rattle.guard.specs.declared.Answer.{Answer}
+use Rattle.guard.specs.declared.Answer.TheVariants.{Normal, Panic, Lost}
+use Rattle.guard.specs.Guard.{fresh}
 use Rattle.flat.specs.declared.FloeSetRead.{FloeSetRead}
 use Rattle.flat.specs.declared.FloeWritten.{FloeWritten}
 use Rattle.flat.specs.declared.FloeVerdict.{FloeVerdict}
@@ -48,76 +30,79 @@ use Rattle.flat.specs.declared.FloeLogRead.{FloeLogRead}
 abbrev pub FlatAnswer : {A R : Type 0} → (A → Type 0) → (A → R) → R → Type 0
 FlatAnswer {A} promise flat r = (a : A) × promise a × (r ≡ flat a)
 
-abbrev pub flat_set_of : SetAnswer → LimitSet → FloeSetRead
-flat_set_of set.Accepted s = record { refused = 0; at = 0; set = s }
-flat_set_of (set.Refused number at) s = record { refused = number; at = at; set = s }
+-- `refused` and `at` of an answer
+abbrev pub numbers_of : {A : Type 0} → Result A Refused → ℕ × ℕ
+numbers_of (Ok x) = (0, 0)
+numbers_of (Err e) = (number_of e, beside e)
 
-abbrev pub flat_set : SetRead → FloeSetRead
-flat_set a = flat_set_of a.answer a.set
+abbrev pub flat_set : Result LimitSet Refused → FloeSetRead
+flat_set (Ok s) = record { refused = 0; at = 0; set = s }
+flat_set (Err e) = record { refused = number_of e; at = beside e; set = empty_set }
 
-abbrev pub flat_written : WriteAnswer → FloeWritten
-flat_written (written.Written length) = record { refused = 0; at = 0; length = length }
-flat_written (written.Refused number at) = record { refused = number; at = at; length = 0 }
+abbrev pub flat_written : Result ℕ Refused → FloeWritten
+flat_written (Ok length) = record { refused = 0; at = 0; length = length }
+flat_written (Err e) = record { refused = number_of e; at = beside e; length = 0 }
 
 -- kept is 1 or 0, and 0 on a refusal; job, limit and first are 0 where nothing is lost
-abbrev pub flat_verdict : Judgement → FloeVerdict
-flat_verdict verdict.Kept = record { refused = 0; at = 0; kept = 1; job = 0; limit = 0; first = pos 0 }
-flat_verdict (verdict.Lost job limit first) = record { refused = 0; at = 0; kept = 0; job = job; limit = limit; first = first }
-flat_verdict (verdict.Refused number at) = record { refused = number; at = at; kept = 0; job = 0; limit = 0; first = pos 0 }
+abbrev pub flat_verdict : Result (Option Loss) Refused → FloeVerdict
+flat_verdict (Ok None) = record { refused = 0; at = 0; kept = 1; job = 0; limit = 0; first = pos 0 }
+flat_verdict (Ok (Some l)) = record { refused = 0; at = 0; kept = 0; job = l.job; limit = l.limit; first = l.first }
+flat_verdict (Err e) = record { refused = number_of e; at = beside e; kept = 0; job = 0; limit = 0; first = pos 0 }
 
-abbrev pub flat_compared : CompareAnswer → Pattern → FloeComparison
-flat_compared comparison.Covers p = record { refused = 0; at = 0; which = 0; covers = 1; length = p.length; pattern = p.outcomes }
-flat_compared comparison.Between p = record { refused = 0; at = 0; which = 0; covers = 0; length = p.length; pattern = p.outcomes }
-flat_compared (comparison.Refused which number at) p = record { refused = number; at = at; which = which; covers = 0; length = p.length; pattern = p.outcomes }
+abbrev pub flat_compared : Result (Option Pattern) RefusedSet → Pattern → FloeComparison
+flat_compared (Ok None) p = record { refused = 0; at = 0; which = 0; covers = 1; length = p.length; pattern = p.outcomes }
+flat_compared (Ok (Some between)) p = record { refused = 0; at = 0; which = 0; covers = 0; length = p.length; pattern = p.outcomes }
+flat_compared (Err e) p = record { refused = number_of (why_of e); at = beside (why_of e); which = which_of e; covers = 0; length = p.length; pattern = p.outcomes }
 
-abbrev pub flat_comparison : Compared → FloeComparison
-flat_comparison a = flat_compared a.answer a.pattern
+abbrev pub flat_comparison : Result (Option Pattern) RefusedSet → FloeComparison
+flat_comparison a = flat_compared a (pattern_in a)
 
-abbrev pub flat_built : BuildAnswer → FloeBuilt
-flat_built (built.Built length) = record { refused = 0; at = 0; length = length }
-flat_built (built.Refused number at) = record { refused = number; at = at; length = 0 }
+abbrev pub flat_built : Result ℕ Refused → FloeBuilt
+flat_built (Ok length) = record { refused = 0; at = 0; length = length }
+flat_built (Err e) = record { refused = number_of e; at = beside e; length = 0 }
 
-abbrev pub flat_checked : TableAnswer → FloeChecked
-flat_checked (checked.States states) = record { refused = 0; at = 0; states = states }
-flat_checked (checked.Refused number at) = record { refused = number; at = at; states = 0 }
+abbrev pub flat_checked : Result ℕ Refused → FloeChecked
+flat_checked (Ok states) = record { refused = 0; at = 0; states = states }
+flat_checked (Err e) = record { refused = number_of e; at = beside e; states = 0 }
 
 -- a guard's calls: what is said of the answer, alone where the guards stay in a row
-abbrev pub flat_start : StartAnswer → FloeDone
-flat_start start.Started = record { refused = 0; at = 0 }
-flat_start (start.Refused number at) = record { refused = number; at = at }
+abbrev pub flat_start : Result ⊤ Refused → FloeDone
+flat_start (Ok x) = record { refused = 0; at = 0 }
+flat_start (Err e) = record { refused = number_of e; at = beside e }
 
 -- 0 normal, 1 panic, 2 lost, 3 refused
-abbrev pub flat_ask : AskAnswer → FloeRowAsked
-flat_ask ask.Normal = record { refused = 0; at = 0; answer = 0 }
-flat_ask ask.Panic = record { refused = 0; at = 0; answer = 1 }
-flat_ask ask.Lost = record { refused = 0; at = 0; answer = 2 }
-flat_ask (ask.Refused number at) = record { refused = number; at = at; answer = 3 }
+abbrev pub flat_ask : Result Answer Refused → FloeRowAsked
+flat_ask (Ok Normal) = record { refused = 0; at = 0; answer = 0 }
+flat_ask (Ok Panic) = record { refused = 0; at = 0; answer = 1 }
+flat_ask (Ok Lost) = record { refused = 0; at = 0; answer = 2 }
+flat_ask (Err e) = record { refused = number_of e; at = beside e; answer = 3 }
 
-abbrev pub flat_tell : TellAnswer → FloeDone
-flat_tell tell.Told = record { refused = 0; at = 0 }
-flat_tell (tell.Refused number at) = record { refused = number; at = at }
+abbrev pub flat_tell : Result ⊤ Refused → FloeDone
+flat_tell (Ok x) = record { refused = 0; at = 0 }
+flat_tell (Err e) = record { refused = number_of e; at = beside e }
 
--- and beside it the guard where it is passed by value
-abbrev pub flat_started : Started → FloeStarted
-flat_started a = let said = flat_start a.answer in record { refused = said.refused; at = said.at; guard = a.guard }
+-- and beside it the guard where it is passed by value; beside a refused start stands one with nothing told
+abbrev pub flat_started : Result Guard Refused → FloeStarted
+flat_started (Ok g) = record { refused = 0; at = 0; guard = g }
+flat_started (Err e) = record { refused = number_of e; at = beside e; guard = fresh }
 
-abbrev pub flat_asked : Asked → FloeAsked
-flat_asked a = let said = flat_ask a.answer in record { refused = said.refused; at = said.at; answer = said.answer; guard = a.guard }
+abbrev pub flat_asked : (Result Answer Refused × Guard) → FloeAsked
+flat_asked a = let said = flat_ask a.0 in record { refused = said.refused; at = said.at; answer = said.answer; guard = a.1 }
 
-abbrev pub flat_told : Told → FloeTold
-flat_told a = let said = flat_tell a.answer in record { refused = said.refused; at = said.at; guard = a.guard }
+abbrev pub flat_told : (Result ⊤ Refused × Guard) → FloeTold
+flat_told a = let said = flat_tell a.0 in record { refused = said.refused; at = said.at; guard = a.1 }
 
 -- place 0, on a refusal too
-abbrev pub flat_opened : OpenAnswer → FloeLogOpened
-flat_opened opening.Opened = record { refused = 0; at = 0; place = 0 }
-flat_opened (opening.Refused number at) = record { refused = number; at = at; place = 0 }
+abbrev pub flat_opened : Result ⊤ Refused → FloeLogOpened
+flat_opened (Ok x) = record { refused = 0; at = 0; place = 0 }
+flat_opened (Err e) = record { refused = number_of e; at = beside e; place = 0 }
 
 -- 0 miss, 1 hit, 2 end, 3 refused; and the place where the reader then stands
-abbrev pub flat_read : LogAnswer → (place : ℕ) → FloeLogRead
-flat_read log.Miss place = record { refused = 0; at = 0; answer = 0; place = place }
-flat_read log.Hit place = record { refused = 0; at = 0; answer = 1; place = place }
-flat_read log.End place = record { refused = 0; at = 0; answer = 2; place = place }
-flat_read (log.Refused number at) place = record { refused = number; at = at; answer = 3; place = place }
+abbrev pub flat_read : Result (Option Bool) Refused → (place : ℕ) → FloeLogRead
+flat_read (Ok (Some false)) place = record { refused = 0; at = 0; answer = 0; place = place }
+flat_read (Ok (Some true)) place = record { refused = 0; at = 0; answer = 1; place = place }
+flat_read (Ok None) place = record { refused = 0; at = 0; answer = 2; place = place }
+flat_read (Err e) place = record { refused = number_of e; at = beside e; answer = 3; place = place }
 
-abbrev pub flat_log_read : LogRead → FloeLogRead
-flat_log_read a = flat_read a.answer a.place
+abbrev pub flat_log_read : (Result (Option Bool) Refused × ℕ) → FloeLogRead
+flat_log_read a = flat_read a.0 a.1

@@ -3,10 +3,13 @@
 #![tactic(auto)]
 
 ghost use Rattle.std.specs.Prelude.{◌≡◌};
-ghost use Rattle.flat.specs.Flat.{flat_set, flat_written, flat_verdict, flat_comparison, flat_built, flat_checked, flat_start, flat_ask, flat_tell, flat_opened, flat_read};
+ghost use Rattle.flat.specs.Flat.{numbers_of, flat_set, flat_written, flat_verdict, flat_comparison, flat_built, flat_checked, flat_start, flat_started, flat_ask, flat_asked, flat_told, flat_opened, flat_log_read};
 
-use guard::Guard;
+use compare::{Pattern, RefusedSet};
+use guard::{Answer, Guard};
+use layout::Refused;
 use meaning::LimitSet;
+use verdict::Loss;
 
 #[repr(C)]
 #[derive(Clone, Copy)]
@@ -124,237 +127,243 @@ pub struct FloeLogRead {
     pub place: u64,
 }
 
-pub fn set_read(read: sets::SetRead) -> FloeSetRead
-    ensures { result ≡ flat_set read }
+// The number of a refusal and the value beside it, 0 and 0 where nothing is refused.
+fn numbers<T>(answer: &Result<T, Refused>) -> (u64, u64)
+    ensures { result ≡ numbers_of answer.now }
 {
-    let answer = read.answer;
-    let found = read.set;
     match answer {
-        sets::SetAnswer::Accepted => FloeSetRead {
-            refused: 0,
-            at: 0,
-            set: found,
-        },
-        sets::SetAnswer::Refused { number, at } => FloeSetRead {
-            refused: number as u64,
-            at: at as u64,
-            set: found,
-        },
+        Ok(_) => (0, 0),
+        Err(why) => (why.number() as u64, why.at() as u64),
     }
 }
 
-pub fn written(answer: layout::WriteAnswer) -> FloeWritten
-    ensures { result ≡ flat_written answer }
-{
-    match answer {
-        layout::WriteAnswer::Written(size) => FloeWritten {
-            refused: 0,
-            at: 0,
-            length: size as u64,
-        },
-        layout::WriteAnswer::Refused { number, at } => FloeWritten {
-            refused: number as u64,
-            at: at as u64,
-            length: 0,
-        },
+// A refused set is the empty one.
+impl From<Result<LimitSet, Refused>> for FloeSetRead {
+    ghost from_gives = { λ read r. r ≡ flat_set read };
+
+    fn from(read: Result<LimitSet, Refused>) -> FloeSetRead {
+        let (refused, at) = numbers(&read);
+        FloeSetRead {
+            refused,
+            at,
+            set: read.unwrap_or_default(),
+        }
     }
 }
 
-pub fn judged(answer: verdict::Judgement) -> FloeVerdict
-    ensures { result ≡ flat_verdict answer }
-{
-    match answer {
-        verdict::Judgement::Kept => FloeVerdict {
-            refused: 0,
-            at: 0,
-            kept: 1,
-            job: 0,
-            limit: 0,
-            first: 0,
-        },
-        verdict::Judgement::Lost { job, limit, first } => FloeVerdict {
-            refused: 0,
-            at: 0,
-            kept: 0,
-            job,
-            limit: limit as u64,
-            first,
-        },
-        verdict::Judgement::Refused { number, at } => FloeVerdict {
-            refused: number as u64,
-            at: at as u64,
-            kept: 0, // what wasn't judged isn't kept
-            job: 0,
-            limit: 0,
-            first: 0,
-        },
+impl From<Result<usize, Refused>> for FloeWritten {
+    ghost from_gives = { λ written r. r ≡ flat_written written };
+
+    fn from(written: Result<usize, Refused>) -> FloeWritten {
+        let (refused, at) = numbers(&written);
+        FloeWritten {
+            refused,
+            at,
+            length: written.unwrap_or(0) as u64,
+        }
     }
 }
 
-pub fn compared(said: compare::Compared) -> FloeComparison
-    ensures { result ≡ flat_comparison said }
-{
-    let answer = said.answer;
-    let length = said.pattern.length as u64;
-    let pattern = said.pattern.outcomes;
-    match answer {
-        compare::CompareAnswer::Covers => FloeComparison {
-            refused: 0,
-            at: 0,
-            which: 0,
-            covers: 1,
-            length,
-            pattern,
-        },
-        compare::CompareAnswer::Between => FloeComparison {
-            refused: 0,
-            at: 0,
-            which: 0,
-            covers: 0,
-            length,
-            pattern,
-        },
-        compare::CompareAnswer::Refused { which, number, at } => FloeComparison {
-            refused: number as u64,
-            at: at as u64,
-            which: which as u64,
-            covers: 0, // what wasn't compared isn't covered
-            length,
-            pattern,
-        },
+impl From<Result<Option<Loss>, Refused>> for FloeVerdict {
+    ghost from_gives = { λ judged r. r ≡ flat_verdict judged };
+
+    fn from(judged: Result<Option<Loss>, Refused>) -> FloeVerdict {
+        let (refused, at) = numbers(&judged);
+        match judged {
+            Ok(None) => FloeVerdict {
+                refused,
+                at,
+                kept: 1,
+                job: 0,
+                limit: 0,
+                first: 0,
+            },
+            Ok(Some(Loss { job, limit, first })) => FloeVerdict {
+                refused,
+                at,
+                kept: 0,
+                job,
+                limit: limit as u64,
+                first,
+            },
+            Err(_) => FloeVerdict {
+                refused,
+                at,
+                kept: 0, // what wasn't judged isn't kept
+                job: 0,
+                limit: 0,
+                first: 0,
+            },
+        }
     }
 }
 
-pub fn built(answer: builder::BuildAnswer) -> FloeBuilt
-    ensures { result ≡ flat_built answer }
-{
-    match answer {
-        builder::BuildAnswer::Built(length) => FloeBuilt {
-            refused: 0,
-            at: 0,
-            length: length as u64,
-        },
-        builder::BuildAnswer::Refused { number, at } => FloeBuilt {
-            refused: number as u64,
-            at: at as u64,
-            length: 0,
-        },
+impl From<Result<Option<Pattern>, RefusedSet>> for FloeComparison {
+    ghost from_gives = { λ compared r. r ≡ flat_comparison compared };
+
+    fn from(compared: Result<Option<Pattern>, RefusedSet>) -> FloeComparison {
+        match compared {
+            Ok(None) => FloeComparison {
+                refused: 0,
+                at: 0,
+                which: 0,
+                covers: 1,
+                length: 0,
+                pattern: [0; 16],
+            },
+            Ok(Some(between)) => {
+                let pattern = between.outcomes;
+                FloeComparison {
+                    refused: 0,
+                    at: 0,
+                    which: 0,
+                    covers: 0,
+                    length: between.length as u64,
+                    pattern,
+                }
+            }
+            Err(set) => FloeComparison {
+                refused: set.why().number() as u64,
+                at: set.why().at() as u64,
+                which: set.which() as u64,
+                covers: 0, // what wasn't compared isn't covered
+                length: 0,
+                pattern: [0; 16],
+            },
+        }
     }
 }
 
-pub fn checked(answer: table::TableAnswer) -> FloeChecked
-    ensures { result ≡ flat_checked answer }
-{
-    match answer {
-        table::TableAnswer::States(states) => FloeChecked {
-            refused: 0,
-            at: 0,
-            states: states as u64,
-        },
-        table::TableAnswer::Refused { number, at } => FloeChecked {
-            refused: number as u64,
-            at: at as u64,
-            states: 0,
-        },
+impl From<Result<usize, Refused>> for FloeBuilt {
+    ghost from_gives = { λ built r. r ≡ flat_built built };
+
+    fn from(built: Result<usize, Refused>) -> FloeBuilt {
+        let (refused, at) = numbers(&built);
+        FloeBuilt {
+            refused,
+            at,
+            length: built.unwrap_or(0) as u64,
+        }
     }
 }
 
-pub fn started(answer: guard::StartAnswer) -> FloeDone
-    ensures { result ≡ flat_start answer }
-{
-    match answer {
-        guard::StartAnswer::Started => FloeDone { refused: 0, at: 0 },
-        guard::StartAnswer::Refused { number, at } => FloeDone {
-            refused: number as u64,
-            at: at as u64,
-        },
+impl From<Result<usize, Refused>> for FloeChecked {
+    ghost from_gives = { λ checked r. r ≡ flat_checked checked };
+
+    fn from(checked: Result<usize, Refused>) -> FloeChecked {
+        let (refused, at) = numbers(&checked);
+        FloeChecked {
+            refused,
+            at,
+            states: checked.unwrap_or(0) as u64,
+        }
     }
 }
 
-pub fn asked(answer: guard::AskAnswer) -> FloeRowAsked
-    ensures { result ≡ flat_ask answer }
-{
-    match answer {
-        guard::AskAnswer::Normal => FloeRowAsked {
-            refused: 0,
-            at: 0,
-            answer: 0,
-        },
-        guard::AskAnswer::Panic => FloeRowAsked {
-            refused: 0,
-            at: 0,
-            answer: 1, // panic
-        },
-        guard::AskAnswer::Lost => FloeRowAsked {
-            refused: 0,
-            at: 0,
-            answer: 2,
-        },
-        guard::AskAnswer::Refused { number, at } => FloeRowAsked {
-            refused: number as u64,
-            at: at as u64,
-            answer: 3, // what is refused isn't normal
-        },
+impl From<Result<(), Refused>> for FloeDone {
+    ghost from_gives = { λ done r. r ≡ flat_start done };
+
+    fn from(done: Result<(), Refused>) -> FloeDone {
+        let (refused, at) = numbers(&done);
+        FloeDone { refused, at }
     }
 }
 
-pub fn told(answer: guard::TellAnswer) -> FloeDone
-    ensures { result ≡ flat_tell answer }
-{
-    match answer {
-        guard::TellAnswer::Told => FloeDone { refused: 0, at: 0 },
-        guard::TellAnswer::Refused { number, at } => FloeDone {
-            refused: number as u64,
-            at: at as u64,
-        },
+// Beside a refusal stands a guard with nothing told.
+impl From<Result<Guard, Refused>> for FloeStarted {
+    ghost from_gives = { λ started r. r ≡ flat_started started };
+
+    fn from(started: Result<Guard, Refused>) -> FloeStarted {
+        let (refused, at) = numbers(&started);
+        FloeStarted {
+            refused,
+            at,
+            guard: started.unwrap_or(Guard::new()),
+        }
+    }
+}
+
+impl From<Result<Answer, Refused>> for FloeRowAsked {
+    ghost from_gives = { λ asked r. r ≡ flat_ask asked };
+
+    fn from(asked: Result<Answer, Refused>) -> FloeRowAsked {
+        let (refused, at) = numbers(&asked);
+        let answer = match asked {
+            Ok(Answer::Normal) => 0,
+            Ok(Answer::Panic) => 1,
+            Ok(Answer::Lost) => 2,
+            Err(_) => 3, // what is refused isn't normal
+        };
+        FloeRowAsked {
+            refused,
+            at,
+            answer,
+        }
+    }
+}
+
+// The answer of a guard that is passed by value, and the guard.
+impl From<(Result<Answer, Refused>, Guard)> for FloeAsked {
+    ghost from_gives = { λ asked r. r ≡ flat_asked asked };
+
+    fn from(asked: (Result<Answer, Refused>, Guard)) -> FloeAsked {
+        let (answer, guard) = asked;
+        let said = FloeRowAsked::from(answer);
+        FloeAsked {
+            refused: said.refused,
+            at: said.at,
+            answer: said.answer,
+            guard,
+        }
+    }
+}
+
+// What a guard that is passed by value says when it is told, and the guard then.
+impl From<(Result<(), Refused>, Guard)> for FloeTold {
+    ghost from_gives = { λ told r. r ≡ flat_told told };
+
+    fn from(told: (Result<(), Refused>, Guard)) -> FloeTold {
+        let (answer, guard) = told;
+        let said = FloeDone::from(answer);
+        FloeTold {
+            refused: said.refused,
+            at: said.at,
+            guard,
+        }
     }
 }
 
 // A log is opened at place 0, and a refusal keeps that place.
-pub fn opened(answer: night_log::OpenAnswer) -> FloeLogOpened
-    ensures { result ≡ flat_opened answer }
-{
-    match answer {
-        night_log::OpenAnswer::Opened => FloeLogOpened {
-            refused: 0,
-            at: 0,
+impl From<Result<(), Refused>> for FloeLogOpened {
+    ghost from_gives = { λ opened r. r ≡ flat_opened opened };
+
+    fn from(opened: Result<(), Refused>) -> FloeLogOpened {
+        let (refused, at) = numbers(&opened);
+        FloeLogOpened {
+            refused,
+            at,
             place: 0,
-        },
-        night_log::OpenAnswer::Refused { number, at } => FloeLogOpened {
-            refused: number as u64,
-            at: at as u64,
-            place: 0,
-        },
+        }
     }
 }
 
-pub fn read(answer: night_log::LogAnswer, place: u64) -> FloeLogRead
-    ensures { result ≡ flat_read answer place }
-{
-    match answer {
-        night_log::LogAnswer::Miss => FloeLogRead {
-            refused: 0,
-            at: 0,
-            answer: 0,
+// What a log hands out, and the place where the reader then stands.
+impl From<(Result<Option<bool>, Refused>, u64)> for FloeLogRead {
+    ghost from_gives = { λ read r. r ≡ flat_log_read read };
+
+    fn from(read: (Result<Option<bool>, Refused>, u64)) -> FloeLogRead {
+        let (outcome, place) = read;
+        let (refused, at) = numbers(&outcome);
+        let answer = match outcome {
+            Ok(Some(hit)) => hit as u64,
+            Ok(None) => 2,
+            Err(_) => 3, // what is refused isn't the end
+        };
+        FloeLogRead {
+            refused,
+            at,
+            answer,
             place,
-        },
-        night_log::LogAnswer::Hit => FloeLogRead {
-            refused: 0,
-            at: 0,
-            answer: 1,
-            place,
-        },
-        night_log::LogAnswer::End => FloeLogRead {
-            refused: 0,
-            at: 0,
-            answer: 2,
-            place,
-        },
-        night_log::LogAnswer::Refused { number, at } => FloeLogRead {
-            refused: number as u64,
-            at: at as u64,
-            answer: 3, // what is refused isn't the end
-            place,
-        },
+        }
     }
 }
