@@ -2,184 +2,120 @@
 // A set is its count and its limits, each as kind, x, k; jobs are numbered from 1, limits from 0.
 // A comparison's refusal also says which set was refused, 1 or 2.
 use crate::text;
-use compare::CompareAnswer;
-use guard::{AskAnswer, Guard, HELD, StartAnswer, TellAnswer};
-use layout::WriteAnswer;
-use meaning::{Limit, LimitSet};
-use night_log::{LogAnswer, OpenAnswer};
-use table::TableAnswer;
-
-fn print_limit(rt: &impl Print, limit: Limit, first: bool) {
-    if !first {
-        text::print(rt, b",");
-    }
-    text::print(rt, b" ");
-    text::print_number(rt, limit.kind as u64);
-    text::print(rt, b" ");
-    text::print_number(rt, limit.x as u64);
-    text::print(rt, b" ");
-    text::print_number(rt, limit.k as u64);
-}
-
-fn print_limits(rt: &impl Print, set: LimitSet) {
-    let count = set.count;
-    let mut i = 0;
-    while i < 8 {
-        if i == count {
-            return;
-        }
-        let limit = set.limits[i];
-        print_limit(rt, limit, i == 0);
-        i += 1;
-    }
-}
+use compare::{Pattern, RefusedSet};
+use guard::{Answer, Guard};
+use layout::Refused;
+use meaning::LimitSet;
+use verdict::Loss;
 
 // As `accepted 2: 0 2 4, 3 2 0`.
-pub(crate) fn print_read(rt: &impl Print, read: sets::SetRead) {
-    let answer = read.answer;
-    if let sets::SetAnswer::Refused { number, at } = answer {
-        text::print_refusal(rt, number, at);
-        return;
+fn print_set(rt: &impl Print, set: LimitSet) {
+    let _ = print!(rt; "accepted {}:", set.count);
+    for (i, limit) in set.limits.iter().take(set.count).enumerate() {
+        if 0 < i {
+            text::print(rt, ",");
+        }
+        let _ = print!(rt; " {} {} {}", limit.kind, limit.x, limit.k);
     }
-    let set = read.set;
-    text::print(rt, b"accepted ");
-    text::print_number(rt, set.count as u64);
-    text::print(rt, b":");
-    print_limits(rt, set);
 }
 
-// As `written 9`; says how many bytes were written.
-pub(crate) fn print_written(rt: &impl Print, written: WriteAnswer) -> usize {
-    match written {
-        WriteAnswer::Written(size) => {
-            text::print(rt, b"written ");
-            text::print_number(rt, size as u64);
-            size
+pub(crate) fn print_read(rt: &impl Print, read: Result<LimitSet, Refused>) {
+    match read {
+        Ok(set) => print_set(rt, set),
+        Err(refused) => text::print_refusal(rt, refused),
+    }
+}
+
+// As `written 9`.
+pub(crate) fn print_written(rt: &impl Print, written: Result<usize, Refused>) {
+    print_counted(rt, written, "written");
+}
+
+// As `states 3`.
+pub(crate) fn print_checked(rt: &impl Print, checked: Result<usize, Refused>) {
+    print_counted(rt, checked, "states");
+}
+
+fn print_counted(rt: &impl Print, counted: Result<usize, Refused>, word: &str) {
+    match counted {
+        Ok(n) => {
+            let _ = print!(rt; "{word} {n}");
         }
-        WriteAnswer::Refused { number, at } => {
-            text::print_refusal(rt, number, at);
-            0
-        }
+        Err(refused) => text::print_refusal(rt, refused),
     }
 }
 
 // As `lost at 4 by limit 0 from 3`, or from -1 where the window begins before the pattern.
-fn print_lost(rt: &impl Print, job: u64, limit: usize, first: i64) {
-    text::print(rt, b"lost at ");
-    text::print_number(rt, job);
-    text::print(rt, b" by limit ");
-    text::print_number(rt, limit as u64);
-    text::print(rt, b" from ");
-    text::print_signed(rt, first);
+fn print_loss(rt: &impl Print, loss: Loss) {
+    let _ = print!(rt;
+        "lost at {} by limit {} from {}",
+        loss.job, loss.limit, loss.first
+    );
 }
 
-pub(crate) fn print_judgement(rt: &impl Print, judgement: verdict::Judgement) {
-    match judgement {
-        verdict::Judgement::Kept => text::print(rt, b"kept"),
-        verdict::Judgement::Lost { job, limit, first } => print_lost(rt, job, limit, first),
-        verdict::Judgement::Refused { number, at } => text::print_refusal(rt, number, at),
+pub(crate) fn print_judged(rt: &impl Print, judged: Result<Option<Loss>, Refused>) {
+    match judged {
+        Ok(None) => text::print(rt, "kept"),
+        Ok(Some(loss)) => print_loss(rt, loss),
+        Err(refused) => text::print_refusal(rt, refused),
     }
 }
 
 // As `between 0011100`.
-fn print_between(rt: &impl Print, pattern: compare::Pattern) {
-    text::print(rt, b"between ");
-    let outcomes = pattern.outcomes;
-    text::print_outcomes(rt, &outcomes, pattern.length);
+fn print_between(rt: &impl Print, pattern: Pattern) {
+    text::print(rt, "between ");
+    text::print_outcomes(
+        rt,
+        &pattern.outcomes[..pattern.length.min(pattern.outcomes.len())],
+    );
 }
 
 // As `refused 3 at 0 in set 1`.
-fn print_refused_set(rt: &impl Print, which: u8, number: u8, at: usize) {
-    text::print_refusal(rt, number, at);
-    text::print(rt, b" in set ");
-    text::print_number(rt, which as u64);
+fn print_refused_set(rt: &impl Print, refused: RefusedSet) {
+    text::print_refusal(rt, refused.why());
+    let _ = print!(rt; " in set {}", refused.which());
 }
 
-pub(crate) fn print_compared(rt: &impl Print, compared: compare::Compared) {
-    let answer = compared.answer;
-    match answer {
-        CompareAnswer::Covers => text::print(rt, b"covers"),
-        CompareAnswer::Between => print_between(rt, compared.pattern),
-        CompareAnswer::Refused { which, number, at } => print_refused_set(rt, which, number, at),
+pub(crate) fn print_compared(rt: &impl Print, compared: Result<Option<Pattern>, RefusedSet>) {
+    match compared {
+        Ok(None) => text::print(rt, "covers"),
+        Ok(Some(pattern)) => print_between(rt, pattern),
+        Err(refused) => print_refused_set(rt, refused),
     }
 }
 
-// As `states 3`.
-pub(crate) fn print_checked(rt: &impl Print, answer: TableAnswer) {
-    match answer {
-        TableAnswer::States(n) => {
-            text::print(rt, b"states ");
-            text::print_number(rt, n as u64);
-        }
-        TableAnswer::Refused { number, at } => text::print_refusal(rt, number, at),
-    }
-}
-
-pub(crate) fn print_opened(rt: &impl Print, answer: OpenAnswer) {
-    match answer {
-        OpenAnswer::Opened => text::print(rt, b"opened"),
-        OpenAnswer::Refused { number, at } => text::print_refusal(rt, number, at),
+// The word, or why it was refused.
+pub(crate) fn print_done(rt: &impl Print, done: Result<(), Refused>, word: &str) {
+    match done {
+        Ok(()) => text::print(rt, word),
+        Err(refused) => text::print_refusal(rt, refused),
     }
 }
 
 // An outcome as its digit.
-pub(crate) fn print_handed(rt: &impl Print, answer: LogAnswer) {
-    match answer {
-        LogAnswer::Miss => text::print(rt, b"0"),
-        LogAnswer::Hit => text::print(rt, b"1"),
-        LogAnswer::End => text::print(rt, b"end"),
-        LogAnswer::Refused { number, at } => text::print_refusal(rt, number, at),
+pub(crate) fn print_handed(rt: &impl Print, handed: Result<Option<bool>, Refused>) {
+    match handed {
+        Ok(Some(false)) => text::print(rt, "0"),
+        Ok(Some(true)) => text::print(rt, "1"),
+        Ok(None) => text::print(rt, "end"),
+        Err(refused) => text::print_refusal(rt, refused),
     }
 }
 
-// As `place 3`.
-pub(crate) fn print_place(rt: &impl Print, place: usize) {
-    text::print(rt, b"place ");
-    text::print_number(rt, place as u64);
-}
-
-// The word is `started`, or `carried` where a guard was read back.
-pub(crate) fn print_started(rt: &impl Print, answer: StartAnswer, word: &[u8]) {
-    match answer {
-        StartAnswer::Started => text::print(rt, word),
-        StartAnswer::Refused { number, at } => text::print_refusal(rt, number, at),
-    }
-}
-
-pub(crate) fn print_asked(rt: &impl Print, answer: AskAnswer) {
-    match answer {
-        AskAnswer::Normal => text::print(rt, b"normal"),
-        AskAnswer::Panic => text::print(rt, b"panic"),
-        AskAnswer::Lost => text::print(rt, b"lost"),
-        AskAnswer::Refused { number, at } => text::print_refusal(rt, number, at),
-    }
-}
-
-pub(crate) fn print_told(rt: &impl Print, answer: TellAnswer) {
-    match answer {
-        TellAnswer::Told => text::print(rt, b"told"),
-        TellAnswer::Refused { number, at } => text::print_refusal(rt, number, at),
-    }
-}
-
-fn print_held(rt: &impl Print, outcomes: [bool; HELD]) {
-    let mut i = 0;
-    while i < HELD {
-        text::print_outcome(rt, outcomes[i]);
-        i += 1;
+pub(crate) fn print_asked(rt: &impl Print, asked: Result<Answer, Refused>) {
+    match asked {
+        Ok(Answer::Normal) => text::print(rt, "normal"),
+        Ok(Answer::Panic) => text::print(rt, "panic"),
+        Ok(Answer::Lost) => text::print(rt, "lost"),
+        Err(refused) => text::print_refusal(rt, refused),
     }
 }
 
 // As `state 1 lost, told 3, holds 111111111111110`; `lost` only where it is.
 pub(crate) fn print_guard(rt: &impl Print, guard: Guard) {
-    text::print(rt, b"state ");
-    text::print_number(rt, guard.state as u64);
-    if guard.lost {
-        text::print(rt, b" lost");
+    let lost = if guard.lost { " lost" } else { "" };
+    let _ = print!(rt; "state {}{lost}, told {}, holds ", guard.state, guard.count);
+    for hit in guard.outcomes {
+        let _ = print!(rt; "{}", hit as u8);
     }
-    text::print(rt, b", told ");
-    text::print_number(rt, guard.count);
-    text::print(rt, b", holds ");
-    let outcomes = guard.outcomes;
-    print_held(rt, outcomes);
 }

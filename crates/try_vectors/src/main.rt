@@ -7,7 +7,6 @@
 #![tactic(auto)]
 
 ghost use Rattle.std.specs.Prelude.{◌≡◌, length};
-ghost use Rattle.io.specs.Counts.{IsPrefixLen};
 
 mod actions;
 mod answers;
@@ -20,131 +19,43 @@ mod memory;
 mod tables;
 mod text;
 
-use std::io::Read;
-
-// The answer to a vector on sets of limits and patterns, and whether there was such a command.
-fn answer_limits(rt: &impl Print, line: &[u8], command: u8) -> bool {
-    if command == b'r' {
-        limits::try_read(rt, line);
-        return true;
-    }
-    if command == b'w' {
-        limits::try_write(rt, line);
-        return true;
-    }
-    if command == b'm' {
-        memory::write_from(rt, fields::field(line, 1), fields::field(line, 2));
-        return true;
-    }
-    if command == b'j' {
-        limits::try_judge(rt, line);
-        return true;
-    }
-    if command == b'c' {
-        limits::try_compare(rt, line);
-        return true;
-    }
-    false
-}
-
-// The same for vectors on night logs.
-fn answer_logs(rt: &impl Print, line: &[u8], command: u8) -> bool {
-    if command == b'l' {
-        logs::try_write(rt, line);
-        return true;
-    }
-    if command == b'o' {
-        logs::try_open(rt, line);
-        return true;
-    }
-    if command == b'n' {
-        logs::try_at(rt, line);
-        return true;
-    }
-    if command == b'a' {
-        logs::try_calls(rt, line);
-        return true;
-    }
-    if command == b'v' {
-        logs::try_judge(rt, line);
-        return true;
-    }
-    false
-}
-
-// The same for vectors on tables and guards.
-fn answer_guards(rt: &impl Print, line: &[u8], command: u8) -> bool {
-    if command == b't' {
-        tables::try_check(rt, line);
-        return true;
-    }
-    if command == b'g' {
-        guards::try_new(rt, line);
-        return true;
-    }
-    if command == b'h' {
-        guards::try_by_hand(rt, line);
-        return true;
-    }
-    false
-}
-
-// The same for vectors on records and changes of the battery.
-fn answer_carries(rt: &impl Print, line: &[u8], command: u8) -> bool {
-    if command == b'p' {
-        carries::try_changes(rt, line);
-        return true;
-    }
-    if command == b'k' {
-        carries::try_write(rt, line);
-        return true;
-    }
-    if command == b'b' {
-        carries::try_read(rt, line);
-        return true;
-    }
-    false
-}
-
+// The answer to a vector.
 fn answer(rt: &impl Print, line: &[u8], command: u8) {
-    text::print(rt, b" = ");
-    if answer_limits(rt, line, command) {
-        return;
+    text::print(rt, " = ");
+    match command {
+        b'r' => limits::try_read(rt, line),
+        b'w' => limits::try_write(rt, line),
+        b'm' => memory::write_from(rt, line),
+        b'j' => limits::try_judge(rt, line),
+        b'c' => limits::try_compare(rt, line),
+        b'l' => logs::try_write(rt, line),
+        b'o' => logs::try_open(rt, line),
+        b'n' => logs::try_at(rt, line),
+        b'a' => logs::try_calls(rt, line),
+        b'v' => logs::try_judge(rt, line),
+        b't' => tables::try_check(rt, line),
+        b'g' => guards::try_new(rt, line),
+        b'h' => guards::try_by_hand(rt, line),
+        b'p' => carries::try_changes(rt, line),
+        b'k' => carries::try_write(rt, line),
+        b'b' => carries::try_read(rt, line),
+        _ => text::print(rt, "no such command"),
     }
-    if answer_logs(rt, line, command) {
-        return;
-    }
-    if answer_guards(rt, line, command) {
-        return;
-    }
-    if answer_carries(rt, line, command) {
-        return;
-    }
-    text::print(rt, b"no such command");
 }
 
+// Prints a line, and the answer to its vector; a comment and an empty line have none.
 fn try_line(rt: &impl Print, line: &[u8]) {
-    text::print(rt, line);
-    if line.len() == 0 {
-        return;
+    let _ = rt.write_all(line);
+    match line {
+        [] | [b'#', ..] => {}
+        [command, ..] => answer(rt, line, *command),
     }
-    let command = line[0];
-    if command == b'#' {
-        return;
-    }
-    answer(rt, line, command);
+    text::print(rt, "\n");
 }
 
 fn run(rt: &impl Print, lines: &[u8]) {
-    let mut at = 0;
-    while at < lines.len() {
-        let end = fields::find(lines, b'\n', at);
-        try_line(rt, &lines[at..end]);
-        text::print_line_end(rt);
-        if end == lines.len() {
-            return;
-        }
-        at = end + 1;
+    for line in lines.split_inclusive(|byte| *byte == b'\n') {
+        try_line(rt, line.strip_suffix(b"\n").unwrap_or(line));
     }
 }
 
@@ -155,23 +66,8 @@ fn input() -> [u8; 131072]
     [0; 131072]
 }
 
-// Reads until `buf` is full, the input ends or a read fails, and says how many bytes were read.
-fn read_full(reader: &mut impl Read, buf: &mut [u8]) -> usize
-    ensures { IsPrefixLen result buf.new }
-{
-    let mut done = 0;
-    while done < buf.len() {
-        let n = reader.read(&mut buf[done..]).unwrap_or(0);
-        if n == 0 {
-            break;
-        }
-        done += n;
-    }
-    done
-}
-
 fn main(rt: HostRuntime) {
     let mut lines = input();
-    let n = read_full(&mut rt.stdin(), &mut lines);
+    let n = io::read_full(0, &mut lines);
     run(&rt, &lines[..n]);
 }

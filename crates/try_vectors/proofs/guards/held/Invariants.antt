@@ -1,9 +1,0 @@
--- each turn is one outcome further
-use Rattle.std.proofs.Common.{◌-◌, ◌≤◌}
-use Rattle.try_vectors.proofs.guards.held.Given as goal
-
-abbrev pub invariant-loop-i : goal.invariant-loop-i
-invariant-loop-i l = l.i ≤ 15
-
-abbrev pub decreases-loop-i : goal.decreases-loop-i
-decreases-loop-i l = 15 - l.i

@@ -1,9 +1,0 @@
--- there are eight places for limits
-use Rattle.std.proofs.Common.{◌-◌, ◌≤◌}
-use Rattle.try_vectors.proofs.memory.set_of.Given as goal
-
-abbrev pub invariant-loop-i : goal.invariant-loop-i
-invariant-loop-i l = l.i ≤ 8
-
-abbrev pub decreases-loop-i : goal.decreases-loop-i
-decreases-loop-i l = 8 - l.i
