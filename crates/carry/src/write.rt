@@ -16,14 +16,17 @@ const TAIL: usize = HELD + AFTER;
 // All that stands around the set's bytes.
 const AROUND: usize = 5 + TAIL;
 
-// The length field, the version and the set's bytes.
+// The length field, the version and the set's bytes. Those are stored one by one: `copy_from_slice` would call `memmove`,
+// and of the C library the archive calls `memset` alone.
 fn put_set(set: &[u8], out: &mut [u8])
     requires { (length set.now < 256) × (5 + length set.now ≤ length out.old) }
     ensures { out.new ≡ head_bytes new_version carried set.now ++ drop (5 + length set.now) out.old }
 {
     layout::put_four(out, 0, 1 + set.len() + TAIL);
     out[4] = NEW.number;
-    out[5..5 + set.len()].copy_from_slice(set);
+    for (i, byte) in set.iter().enumerate() {
+        out[5 + i] = *byte;
+    }
 }
 
 // The outcomes, one byte each.
