@@ -6,19 +6,18 @@ use mathlib.Core.List.{List, [], ◌∷◌, ◌++◌}
 use Prim.Native.Nat.{ℕ, ◌-◌, ◌<◌}
 use native.Mathlib.Omega.{arith}
 use lib.ListN.{length, take, replicate, length-map}
+use Rattle.std.specs.Prelude.{Result, Ok, Err}
 use Rattle.layout.specs.Bytes.{byte_at}
 use Rattle.layout.specs.Refusal.{row, passed, first}
-use Rattle.layout.specs.declared.WriteAnswer.{WriteAnswer}
-use Rattle.layout.specs.declared.WriteAnswer.TheVariants as write
+use Rattle.layout.specs.declared.Refused.{Refused}
+use Rattle.layout.specs.Refused.{number_of, beside, says}
 use Rattle.layout.proofs.Write.{refused_leaves_buffer}
 use Rattle.layout.proofs.Rows.{both_passed, passed_first}
 use Rattle.patterns.specs.Outcome.{outcome, outcomes}
 use Rattle.meaning.specs.Longest.{longest}
 use Rattle.table.specs.Rows.{table_rows}
 use Rattle.guard.specs.declared.Guard.{Guard}
-use Rattle.guard.specs.declared.Started.{Started}
-use Rattle.guard.specs.declared.StartAnswer.TheVariants as start
-use Rattle.guard.specs.Guard.{fresh, start_says, StartedAs}
+use Rattle.guard.specs.Guard.{fresh, guard_in, StartedAs}
 use Rattle.carry.specs.Bytes.{new_version, version_for, many_in, carried, set_in, outcome_bytes, count_in, lost_byte, record_of}
 use Rattle.carry.specs.Rows.{write_rows, version_rows, led_to, leads_nowhere, read_rows}
 use Rattle.carry.specs.Write.{RecordWrittenAs}
@@ -30,42 +29,42 @@ use Rattle.carry.proofs.Back.{written_record}
 use Rattle.flat.specs.declared.FloeWritten.{FloeWritten}
 use Rattle.flat.specs.declared.FloeStarted.{FloeStarted}
 use Rattle.flat.specs.Flat.{FlatAnswer, flat_written, flat_started}
-use Rattle.demands.specs.Refusing.{Refuses, RefusesFlat}
+use Rattle.demands.specs.Refusing.{RefusedBy, Refuses, RefusesFlat}
 use Rattle.demands.specs.TableOf.{TableOf}
 use Rattle.demands.specs.Carrying.{Changed, Event, Through, with_last}
 use Rattle.demands.proofs.Numbers.{CarryWriteNumber, carry_write_numbers, carry_write_positive, CarryReadNumber, carry_read_numbers, carry_read_positive}
-use Rattle.demands.proofs.Answers.{by_written, by_started}
-use Rattle.demands.proofs.FlatAnswers.{opens_refuses, written_opens, start_opens}
+use Rattle.demands.proofs.Refusing.{refuses}
+use Rattle.demands.proofs.FlatAnswers.{opens_refuses, written_opens, started_opens}
 use Rattle.demands.proofs.OldRecords.{last_of}
 use Rattle.demands.proofs.Demand2.{change_gives_same}
 
 -- Writing a record.
-module _ (g : Guard) (set out out' : List ℕ) (r : WriteAnswer) (written : RecordWrittenAs longest carried g set out out' r) where
-  pub carry_write_refuses : Refuses write.Refused CarryWriteNumber (first (write_rows longest carried set out)) r
-  carry_write_refuses = by_written CarryWriteNumber (write_rows longest carried set out) r (carry_write_numbers longest carried set out) written.answer
+module _ (g : Guard) (set out out' : List ℕ) (r : Result ℕ Refused) (written : RecordWrittenAs longest carried g set out out' r) where
+  pub carry_write_refuses : Refuses CarryWriteNumber (first (write_rows longest carried set out)) r
+  carry_write_refuses = refuses CarryWriteNumber (write_rows longest carried set out) r (carry_write_numbers longest carried set out) written.answer
 
-  pub refused_carry_write_leaves_buffer : (n v : ℕ) → r ≡ write.Refused n v → out' ≡ out
+  pub refused_carry_write_leaves_buffer : (n v : ℕ) → RefusedBy r n v → out' ≡ out
   refused_carry_write_leaves_buffer n v e = refused_leaves_buffer written ((carry_write_refuses.exactly n v).0 e)
 
 -- Two guards in memory, of as many outcomes as a guard holds, that were written with one set to equal bytes: equal but for the state.
 pub equal_bytes_equal_guards : (g g' : Guard) → length g.outcomes ≡ carried → length g'.outcomes ≡ carried → (set out o out₂ o₂ : List ℕ) (n n₂ : ℕ)
-    → RecordWrittenAs longest carried g set out o (write.Written n) → RecordWrittenAs longest carried g' set out₂ o₂ (write.Written n₂) → take n o ≡ take n₂ o₂
+    → RecordWrittenAs longest carried g set out o (Ok n) → RecordWrittenAs longest carried g' set out₂ o₂ (Ok n₂) → take n o ≡ take n₂ o₂
     → (g.lost ≡ g'.lost) × (g.outcomes ≡ g'.outcomes) × (g.count ≡ g'.count)
 equal_bytes_equal_guards g g' many many' set out o out₂ o₂ n n₂ w w₂ e =
     same_record new_version carried set g g' many many' (sym (written_record longest carried set g many out o n w).1 ∙ e ∙ (written_record longest carried set g' many' out₂ o₂ n₂ w₂).1)
 
 -- Reading one back.
-module _ (r b : List ℕ) (back : Started) (read : ReadBackAs longest carried r b back) where
-  pub carry_read_refuses : Refuses start.Refused CarryReadNumber (first (read_rows longest carried (version_for r) (many_in carried r) r b)) back.answer
-  carry_read_refuses = by_started CarryReadNumber (read_rows longest carried (version_for r) (many_in carried r) r b) back.answer (carry_read_numbers longest carried (version_for r) (many_in carried r) r b) read.refusal
+module _ (r b : List ℕ) (back : Result Guard Refused) (read : ReadBackAs longest carried r b back) where
+  pub carry_read_refuses : Refuses CarryReadNumber (first (read_rows longest carried (version_for r) (many_in carried r) r b)) back
+  carry_read_refuses = refuses CarryReadNumber (read_rows longest carried (version_for r) (many_in carried r) r b) back (carry_read_numbers longest carried (version_for r) (many_in carried r) r b) read.refusal
 
-  pub refused_carry_read_gives_fresh : (n v : ℕ) → back.answer ≡ start.Refused n v → back.guard ≡ fresh
+  pub refused_carry_read_gives_fresh : (n v : ℕ) → RefusedBy back n v → guard_in back ≡ fresh
   refused_carry_read_gives_fresh n v e = read.guard ∙ ap (λ t. guard_when t carried (many_in carried r) r b) ((carry_read_refuses.exactly n v).0 e)
 
   -- A record that is accepted gives the guard that it holds, in some state.
-  module _ (accepted : back.answer ≡ start.Started) where
+  module _ (h : Guard) (accepted : back ≡ Ok h) where
     all_passed : first (read_rows longest carried (version_for r) (many_in carried r) r b) ≡ passed
-    all_passed = sym read.refusal ∙ ap start_says accepted
+    all_passed = sym read.refusal ∙ ap says accepted
 
     tests : (first (version_rows longest (version_for r) (many_in carried r) r) ≡ passed) × (first (table_rows b ++ row 25 (leads_nowhere (led_to carried (many_in carried r) r b)) 0 ∷ []) ≡ passed)
     tests = both_passed (version_rows longest (version_for r) (many_in carried r) r) (table_rows b ++ row 25 (leads_nowhere (led_to carried (many_in carried r) r b)) 0 ∷ []) all_passed
@@ -73,15 +72,15 @@ module _ (r b : List ℕ) (back : Started) (read : ReadBackAs longest carried r 
     leads : leads_nowhere (led_to carried (many_in carried r) r b) ≡ false
     leads = (passed_first _ _ (both_passed (table_rows b) (row 25 (leads_nowhere (led_to carried (many_in carried r) r b)) 0 ∷ []) tests.1).1).0
 
-    holds : (s : ℕ) × (back.guard ≡ guard_at (some s) carried (many_in carried r) r)
+    holds : (s : ℕ) × (h ≡ guard_at (some s) carried (many_in carried r) r)
     holds = go (led_to carried (many_in carried r) r b) refl
       where
-        go : (x : Option ℕ) → led_to carried (many_in carried r) r b ≡ x → (s : ℕ) × (back.guard ≡ guard_at (some s) carried (many_in carried r) r)
+        go : (x : Option ℕ) → led_to carried (many_in carried r) r b ≡ x → (s : ℕ) × (h ≡ guard_at (some s) carried (many_in carried r) r)
         go none e = absurd (true≢false (sym (ap leads_nowhere e) ∙ leads))
-        go (some s) e = (s, read.guard ∙ ap (λ t. guard_when t carried (many_in carried r) r b) all_passed ∙ ap (λ z. guard_at z carried (many_in carried r) r) e)
+        go (some s) e = (s, sym (ap guard_in accepted) ∙ read.guard ∙ ap (λ t. guard_when t carried (many_in carried r) r b) all_passed ∙ ap (λ z. guard_at z carried (many_in carried r) r) e)
 
     -- It is the record of that guard and of its own set in the version that it says, with as many of the guard's last outcomes as that version has: there is no other of that version. (Bytes of memory are below 256.)
-    pub accepted_is_record_of_its_guard : ((i : ℕ) → byte_at r i < 256) → record_of (version_for r) (many_in carried r) (set_in (many_in carried r) r) (with_last (many_in carried r) back.guard) ≡ r
+    pub accepted_is_record_of_its_guard : ((i : ℕ) → byte_at r i < 256) → record_of (version_for r) (many_in carried r) (set_in (many_in carried r) r) (with_last (many_in carried r) h) ≡ r
     accepted_is_record_of_its_guard bytes =
         let k = many_in carried r in
         let (s, e) = holds in
@@ -93,11 +92,11 @@ module _ (r b : List ℕ) (back : Started) (read : ReadBackAs longest carried r 
         ∙ one_record longest (version_for r) k r bytes tests.0 s
 
 -- An accepted record has one guard: on whichever tables it is read, what comes is equal but for the state.
-pub accepted_record_has_one_guard : (r b b₂ : List ℕ) (back back₂ : Started) → ReadBackAs longest carried r b back → ReadBackAs longest carried r b₂ back₂ → back.answer ≡ start.Started → back₂.answer ≡ start.Started
-    → (back.guard.lost ≡ back₂.guard.lost) × (back.guard.outcomes ≡ back₂.guard.outcomes) × (back.guard.count ≡ back₂.guard.count)
-accepted_record_has_one_guard r b b₂ back back₂ read read₂ accepted accepted₂ =
-    let (s, e) = holds r b back read accepted in
-    let (t, f) = holds r b₂ back₂ read₂ accepted₂ in
+pub accepted_record_has_one_guard : (r b b₂ : List ℕ) (g g₂ : Guard) → ReadBackAs longest carried r b (Ok g) → ReadBackAs longest carried r b₂ (Ok g₂)
+    → (g.lost ≡ g₂.lost) × (g.outcomes ≡ g₂.outcomes) × (g.count ≡ g₂.count)
+accepted_record_has_one_guard r b b₂ g g₂ read read₂ =
+    let (s, e) = holds r b (Ok g) read g refl in
+    let (t, f) = holds r b₂ (Ok g₂) read₂ g₂ refl in
     (ap (λ z. z.lost) e ∙ sym (ap (λ z. z.lost) f), ap (λ z. z.outcomes) e ∙ sym (ap (λ z. z.outcomes) f), ap (λ z. z.count) e ∙ sym (ap (λ z. z.count) f))
 
 -- The boundary.
@@ -107,20 +106,20 @@ floe_carry_write_refuses g set out out' f (a, written, e) =
 
 pub floe_carry_read_refuses : (r b : List ℕ) (f : FloeStarted) → FlatAnswer (ReadBackAs longest carried r b) flat_started f → RefusesFlat CarryReadNumber (first (read_rows longest carried (version_for r) (many_in carried r) r b)) f.refused f.at
 floe_carry_read_refuses r b f (a, read, e) =
-    rw e (opens_refuses CarryReadNumber (read_rows longest carried (version_for r) (many_in carried r) r b) carry_read_positive (carry_read_numbers longest carried (version_for r) (many_in carried r) r b) (start_opens a.answer) read.refusal)
+    rw e (opens_refuses CarryReadNumber (read_rows longest carried (version_for r) (many_in carried r) r b) carry_read_positive (carry_read_numbers longest carried (version_for r) (many_in carried r) r b) (started_opens a) read.refusal)
 
 -- One change more of a run on the table built from the set, by the exported functions: where the record isn't refused, it is read back, and the guard is the one that was written.
-pub floe_change_gives_same : (set b : List ℕ) → TableOf set b → (s : Started) → StartedAs b s → (events : List Event) (g : Guard) → Through set b s.guard events g
+pub floe_change_gives_same : (set b : List ℕ) → TableOf set b → (s : Result Guard Refused) → StartedAs b s → (events : List Event) (g : Guard) → Through set b (guard_in s) events g
     → (out out' : List ℕ) (w : FloeWritten) → FlatAnswer (RecordWrittenAs longest carried g set out out') flat_written w → w.refused ≡ 0
     → (f : FloeStarted) → FlatAnswer (ReadBackAs longest carried (take w.length out') b) flat_started f → (f.refused ≡ 0) × (f.guard ≡ g)
 floe_change_gives_same set b t s started events g run out out' w (a, written, e) taken f (back, read, d) = go a written e
   where
-    go : (a : WriteAnswer) → RecordWrittenAs longest carried g set out out' a → w ≡ flat_written a → (f.refused ≡ 0) × (f.guard ≡ g)
-    go (write.Written n) written e =
+    go : (a : Result ℕ Refused) → RecordWrittenAs longest carried g set out out' a → w ≡ flat_written a → (f.refused ≡ 0) × (f.guard ≡ g)
+    go (Ok n) written e =
         let changed : Changed set b g back = record { out = out; out' = out'; size = n; written = written; back = subst (λ k. ReadBackAs longest carried (take k out') b back) (ap (λ z. z.length) e) read } in
         let same = d ∙ ap flat_started (change_gives_same set b t s started events g run back changed) in
         (ap (λ z. z.refused) same, ap (λ z. z.guard) same)
-    go (write.Refused n v) written e =
-        let own = carry_write_positive n ((carry_write_refuses g set out out' (write.Refused n v) written).numbers n v refl) in
-        let zero : n ≡ 0 = sym (ap (λ z. z.refused) e) ∙ taken in
+    go (Err why) written e =
+        let own = carry_write_positive (number_of why) ((carry_write_refuses g set out out' (Err why) written).numbers (number_of why) (beside why) (why, refl, refl)) in
+        let zero : number_of why ≡ 0 = sym (ap (λ z. z.refused) e) ∙ taken in
         absurd (omega arith)

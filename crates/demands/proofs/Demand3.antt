@@ -7,7 +7,10 @@ use mathlib.Core.List.{List}
 use Prim.Native.Nat.{ℕ, ◌≤◌}
 use native.Mathlib.Omega.{arith}
 use lib.ListN.{take}
+use Rattle.std.specs.Prelude.{Result}
+use Rattle.layout.specs.declared.Refused.{Refused}
 use Rattle.layout.specs.Refusal.{passed, first}
+use Rattle.layout.specs.Write.{length_of}
 use Rattle.machines.specs.Machine.{Machine, WellMade, Can, Walks}
 use Rattle.machines.proofs.Unique.{canonical_unique}
 use Rattle.machines.proofs.Fewest.{canonical_fewest}
@@ -17,15 +20,14 @@ use Rattle.sets.specs.Bytes.{set_of}
 use Rattle.table.specs.Bytes.{machine_of, state_count}
 use Rattle.table.specs.Rows.{table_rows, most_states}
 use Rattle.table.proofs.Bytes.{bytes_of_one_table}
-use Rattle.builder.specs.declared.BuildAnswer.{BuildAnswer}
-use Rattle.builder.specs.Build.{length_of, BuiltAs}
+use Rattle.builder.specs.Build.{BuiltAs}
 use Rattle.builder.proofs.BuiltTables.{no_more_states}
 use Rattle.demands.specs.TableOf.{TableOf, GivenRoom}
 use Rattle.demands.proofs.Tables.{canonical_machine, made_allowed, made_canonical, made_bytes, made_checked, made_one_table, made_walks_kept}
 use Rattle.demands.proofs.Room.{room_suffices}
 
 -- An accepted set that is given room yields a table: it is never refused. In either edition, the library's or the printing program's: `widest` is its longest window.
-pub accepted_yields_table : (widest : ℕ) → widest ≤ longest → (set work work' table table' : List ℕ) (r : BuildAnswer) → GivenRoom widest set work table → BuiltAs widest set work work' table table' r
+pub accepted_yields_table : (widest : ℕ) → widest ≤ longest → (set work work' table table' : List ℕ) (r : Result ℕ Refused) → GivenRoom widest set work table → BuiltAs widest set work work' table table' r
     → TableOf set (take (length_of r) table')
 accepted_yields_table widest edition set work work' table table' r given built =
     let e = room_suffices widest set work work' table table' r given built in
@@ -57,8 +59,8 @@ module _ (set₁ set₂ b₁ b₂ : List ℕ) (t₁ : TableOf set₁ b₁) (t₂
       by e p = (λ c. subst (λ z. Can (machine_of z) 0 p) e c, λ c. subst (λ z. Can (machine_of z) 0 p) (sym e) c)
 
 -- The demand whole: from acceptance and room, whatever the builder answered; for two sets of one edition, and for one of each too.
-pub accepted_sets_agree : (widest₁ : ℕ) → widest₁ ≤ longest → (set₁ work₁ work₁' table₁ table₁' : List ℕ) (r₁ : BuildAnswer) → GivenRoom widest₁ set₁ work₁ table₁ → BuiltAs widest₁ set₁ work₁ work₁' table₁ table₁' r₁
-    → (widest₂ : ℕ) → widest₂ ≤ longest → (set₂ work₂ work₂' table₂ table₂' : List ℕ) (r₂ : BuildAnswer) → GivenRoom widest₂ set₂ work₂ table₂ → BuiltAs widest₂ set₂ work₂ work₂' table₂ table₂' r₂
+pub accepted_sets_agree : (widest₁ : ℕ) → widest₁ ≤ longest → (set₁ work₁ work₁' table₁ table₁' : List ℕ) (r₁ : Result ℕ Refused) → GivenRoom widest₁ set₁ work₁ table₁ → BuiltAs widest₁ set₁ work₁ work₁' table₁ table₁' r₁
+    → (widest₂ : ℕ) → widest₂ ≤ longest → (set₂ work₂ work₂' table₂ table₂' : List ℕ) (r₂ : Result ℕ Refused) → GivenRoom widest₂ set₂ work₂ table₂ → BuiltAs widest₂ set₂ work₂ work₂' table₂ table₂' r₂
     → (take (length_of r₁) table₁' ≡ take (length_of r₂) table₂') ↔ ((p : List Bool) → KeptBy (set_of set₁) p ↔ KeptBy (set_of set₂) p)
 accepted_sets_agree widest₁ edition₁ set₁ work₁ work₁' table₁ table₁' r₁ given₁ built₁ widest₂ edition₂ set₂ work₂ work₂' table₂ table₂' r₂ given₂ built₂ =
     same_bytes_same_patterns set₁ set₂ (take (length_of r₁) table₁') (take (length_of r₂) table₂')

@@ -9,6 +9,8 @@ use native.Mathlib.Nat.{zero-add}
 use native.Mathlib.Numerals.{add-one}
 use native.Mathlib.Omega.{arith}
 use lib.ListN.{length, replicate, length-replicate, replicate-append-replicate}
+use Rattle.std.specs.Prelude.{Result, Ok}
+use Rattle.layout.specs.declared.Refused.{Refused}
 use Rattle.layout.specs.Refusal.{passed, first}
 use Rattle.patterns.specs.Outcome.{outcome}
 use Rattle.machines.specs.Machine.{Machine, walk, Can}
@@ -27,8 +29,8 @@ use Rattle.table.specs.Bytes.{state_count, machine_of}
 use Rattle.table.specs.Rows.{look_rows}
 use Rattle.table.proofs.Checked.{checked_looks}
 use Rattle.guard.specs.declared.Guard.{Guard}
-use Rattle.guard.specs.declared.Asked.{Asked}
-use Rattle.guard.specs.declared.AskAnswer.TheVariants as ask
+use Rattle.guard.specs.declared.Answer.{Answer}
+use Rattle.guard.specs.declared.Answer.TheVariants as answer
 use Rattle.guard.specs.Guard.{most_told, standing, fresh, AskedAs, latest}
 use Rattle.guard.specs.Told.{after_all, told_all, heard}
 use Rattle.guard.proofs.Latest.{latest_length, latest_whole}
@@ -54,7 +56,7 @@ module _ (set b : List ℕ) (t : TableOf set b) where
   after_told : (told : List ℕ) → told_all b fresh told ≡ after_all m fresh (heard told)
   after_told = told_all_lem b (made_checked set b t)
 
-  pub answers_by_meaning : (told : List ℕ) (r : Asked) → AskedAs b (told_all b fresh told) r → ByKept (set_of set) (heard told) r.answer
+  pub answers_by_meaning : (told : List ℕ) (r : Result Answer Refused) → AskedAs b (told_all b fresh told) r → ByKept (set_of set) (heard told) r
   answers_by_meaning told r asked =
       let by = answers_by_walk b (made_checked set b t) told r asked in
       let p = heard told in
@@ -72,7 +74,7 @@ module _ (set b : List ℕ) (t : TableOf set b) where
       kept = made_walks_kept set b t
 
   -- an ask there has an answer
-  can_be_asked : (told : List ℕ) → (r : Asked) × AskedAs b (told_all b fresh told) r
+  can_be_asked : (told : List ℕ) → (r : Result Answer Refused) × AskedAs b (told_all b fresh told) r
   can_be_asked told = go g.lost (m.next g.state false) refl refl
     where
       g : Guard
@@ -81,10 +83,10 @@ module _ (set b : List ℕ) (t : TableOf set b) where
       looks : passed ≡ first (look_rows b g.state)
       looks = sym (checked_looks b (made_checked set b t) g.state (subst (λ z. z.state < state_count b) (sym (after_told told)) (never_leaves b (made_checked set b t) (heard told))))
 
-      go : (l : Bool) (miss : Option ℕ) → g.lost ≡ l → m.next g.state false ≡ miss → (r : Asked) × AskedAs b g r
-      go true miss e f = (record { answer = ask.Lost; guard = g }, record { refusal = looks; answer = e; guard = refl })
-      go false none e f = (record { answer = ask.Panic; guard = g }, record { refusal = looks; answer = (e, f); guard = refl })
-      go false (some s) e f = (record { answer = ask.Normal; guard = g }, record { refusal = looks; answer = (e, (s, f)); guard = refl })
+      go : (l : Bool) (miss : Option ℕ) → g.lost ≡ l → m.next g.state false ≡ miss → (r : Result Answer Refused) × AskedAs b g r
+      go true miss e f = (Ok answer.Lost, record { refusal = looks; answer = e })
+      go false none e f = (Ok answer.Panic, record { refusal = looks; answer = (e, f) })
+      go false (some s) e f = (Ok answer.Normal, record { refusal = looks; answer = (e, (s, f)) })
 
   pub kept_not_lost : (told : List ℕ) → KeptBy (set_of set) (heard told) → (told_all b fresh told).lost ≡ false
   kept_not_lost told k =
@@ -101,7 +103,7 @@ module _ (set b : List ℕ) (t : TableOf set b) where
           absurd (true≢false (sym l ∙ sym (ap (λ z. z.lost) (after_told told)) ∙ e))
 
   -- if no miss was told where ask says panic, every outcome heard is kept
-  module _ (told : List ℕ) (met : (before after : List ℕ) (byte : ℕ) (r : Asked) → told ≡ before ++ (byte ∷ after) → AskedAs b (told_all b fresh before) r → r.answer ≡ ask.Panic → outcome byte ≡ true) where
+  module _ (told : List ℕ) (met : (before after : List ℕ) (byte : ℕ) (r : Result Answer Refused) → told ≡ before ++ (byte ∷ after) → AskedAs b (told_all b fresh before) r → r ≡ Ok answer.Panic → outcome byte ≡ true) where
     keeps_on : (before after : List ℕ) (byte : ℕ) → told ≡ before ++ (byte ∷ after) → KeptBy (set_of set) (heard before) → KeptBy (set_of set) (heard (before ++ byte ∷ []))
     keeps_on before after byte e k =
         ⊎_elim (λ q. subst (KeptBy s) (sym q) k) (λ q. subst (KeptBy s) (sym q) (go (outcome byte) refl)) (heard_next 0 before byte)

@@ -10,8 +10,8 @@ use lib.IntN.{ℤ}
 use native.Mathlib.Decide.{dec_lt}
 use borrow.Author.Tests.{lt-ltb, le-ltb}
 use lib.ListN.{length}
-use Rattle.layout.specs.declared.WriteAnswer.{WriteAnswer}
-use Rattle.layout.specs.declared.WriteAnswer.TheVariants as write
+use Rattle.std.specs.Prelude.{⊤, Option, Result, Ok, Err}
+use Rattle.layout.specs.declared.Refused.{Refused}
 use Rattle.layout.specs.Refusal.{passed, refused, first}
 use Rattle.layout.proofs.Rows.{and_then, FromTo, both_passed, first_append}
 use Rattle.layout.proofs.Write.{refused_leaves_buffer}
@@ -21,66 +21,61 @@ use Rattle.meaning.specs.Broken.{LostFrom}
 use Rattle.sets.specs.Bytes.{set_of}
 use Rattle.sets.specs.Rows.{set_rows}
 use Rattle.sets.proofs.Numbers.{set_positive}
-use Rattle.verdict.specs.declared.Judgement.{Judgement}
-use Rattle.verdict.specs.declared.Judgement.TheVariants as judge
-use Rattle.night_log.specs.declared.OpenAnswer.{OpenAnswer}
-use Rattle.night_log.specs.declared.OpenAnswer.TheVariants as opening
-use Rattle.night_log.specs.declared.LogAnswer.{LogAnswer}
-use Rattle.night_log.specs.declared.LogAnswer.TheVariants as log
-use Rattle.night_log.specs.declared.LogRead.{LogRead}
+use Rattle.verdict.specs.declared.Loss.{Loss}
 use Rattle.night_log.specs.declared.reader.LogReader.{LogReader}
 use Rattle.night_log.specs.Bytes.{outcome_at, outcomes_of}
 use Rattle.night_log.specs.Rows.{log_rows, write_rows}
 use Rattle.night_log.specs.Read.{OpenedAs, HandsOut, ReadAs}
 use Rattle.night_log.specs.Write.{LogWrittenAs}
+use Rattle.night_log.specs.Calls.{LogRead}
 use Rattle.night_log.specs.Judge.{log_judge_rows, LogJudgedAs}
 use Rattle.night_log.specs.Reader.{NextAs}
-use Rattle.night_log.proofs.OneResult.{gives, read_when, read_known}
+use Rattle.night_log.proofs.OneResult.{read_when, read_known}
 use Rattle.flat.specs.declared.FloeWritten.{FloeWritten}
 use Rattle.flat.specs.declared.FloeVerdict.{FloeVerdict}
 use Rattle.flat.specs.declared.FloeLogOpened.{FloeLogOpened}
 use Rattle.flat.specs.declared.FloeLogRead.{FloeLogRead}
 use Rattle.flat.specs.Flat.{FlatAnswer, flat_written, flat_verdict, flat_opened, flat_log_read}
-use Rattle.demands.specs.Refusing.{Refuses, RefusesFlat}
+use Rattle.demands.specs.Refusing.{RefusedBy, Refuses, RefusesFlat}
 use Rattle.demands.specs.Judging.{KeepsLog}
 use Rattle.demands.specs.Reading.{ByOutcomes}
 use Rattle.demands.proofs.Numbers.{log_numbers, LogWriteNumber, log_write_numbers, LogJudgeNumber, log_judge_numbers}
-use Rattle.demands.proofs.Answers.{by_written, by_judged, by_opened, by_read}
-use Rattle.demands.proofs.FlatAnswers.{opens_refuses, written_opens, verdict_opens, opening_opens, read_opens, kept_flat, kept_or_not, lost_flat, refused_read_lem}
+use Rattle.demands.proofs.Refusing.{refuses}
+use Rattle.demands.proofs.FlatAnswers.{opens_refuses, written_opens, verdict_opens, opening_opens, read_opens, read_place, kept_flat, kept_or_not, lost_flat, refused_read_lem}
 use Rattle.demands.proofs.Demand2.{log_verdict_kept, log_verdict_lost}
 
 -- Writing a log.
-module _ (p out out' : List ℕ) (r : WriteAnswer) (written : LogWrittenAs p out out' r) where
-  pub log_write_refuses : Refuses write.Refused LogWriteNumber (first (write_rows p out)) r
-  log_write_refuses = by_written LogWriteNumber (write_rows p out) r (log_write_numbers p out) written.answer
+module _ (p out out' : List ℕ) (r : Result ℕ Refused) (written : LogWrittenAs p out out' r) where
+  pub log_write_refuses : Refuses LogWriteNumber (first (write_rows p out)) r
+  log_write_refuses = refuses LogWriteNumber (write_rows p out) r (log_write_numbers p out) written.answer
 
-  pub refused_log_write_leaves_buffer : (n v : ℕ) → r ≡ write.Refused n v → out' ≡ out
+  pub refused_log_write_leaves_buffer : (n v : ℕ) → RefusedBy r n v → out' ≡ out
   refused_log_write_leaves_buffer n v e = refused_leaves_buffer written ((log_write_refuses.exactly n v).0 e)
 
 -- Opening one, and a call of the reader.
-pub log_open_refuses : (b : List ℕ) (r : OpenAnswer) → OpenedAs b r → Refuses opening.Refused (FromTo 15 16) (first (log_rows b)) r
-log_open_refuses b r opened = by_opened (FromTo 15 16) (log_rows b) r (log_numbers b) opened
+pub log_open_refuses : (b : List ℕ) (r : Result ⊤ Refused) → OpenedAs b r → Refuses (FromTo 15 16) (first (log_rows b)) r
+log_open_refuses b r opened = refuses (FromTo 15 16) (log_rows b) r (log_numbers b) opened
 
-module _ (b : List ℕ) (place : ℕ) (r : LogRead) (read : ReadAs b place r) where
-  pub log_read_refuses : Refuses log.Refused (FromTo 15 16) (first (log_rows b)) r.answer
-  log_read_refuses = by_read (FromTo 15 16) (log_rows b) r.answer (log_numbers b) read.refusal
+module _ (b : List ℕ) (place : ℕ) (r : Result (Option Bool) Refused) (place' : ℕ) (read : ReadAs b place r place') where
+  pub log_read_refuses : Refuses (FromTo 15 16) (first (log_rows b)) r
+  log_read_refuses = refuses (FromTo 15 16) (log_rows b) r (log_numbers b) read.refusal
 
-  pub refused_log_read_keeps_place : (n v : ℕ) → r.answer ≡ log.Refused n v → r.place ≡ place
-  refused_log_read_keeps_place n v e = subst (λ z. HandsOut (outcomes_of b) place z r.place) e read.hands_out
+  pub refused_log_read_keeps_place : (n v : ℕ) → RefusedBy r n v → place' ≡ place
+  refused_log_read_keeps_place n v (why, is, row) = subst (λ z. HandsOut (outcomes_of b) place z place') is read.hands_out
 
 -- The reader that keeps the bytes.
-module _ (before after : LogReader) (r : LogAnswer) (next : NextAs before after r) where
-  pub reader_next_refuses : Refuses log.Refused (FromTo 15 16) (first (log_rows before.log.now)) r
-  reader_next_refuses = log_read_refuses before.log.now before.place (gives r after.place) next.read
+module _ (before after : LogReader) (r : Result (Option Bool) Refused) (next : NextAs before after r) where
+  pub reader_next_refuses : Refuses (FromTo 15 16) (first (log_rows before.log.now)) r
+  reader_next_refuses = log_read_refuses before.log.now before.place r after.place next.read
 
-  pub refused_next_leaves_reader : (n v : ℕ) → r ≡ log.Refused n v → after ≡ before
+  pub refused_next_leaves_reader : (n v : ℕ) → RefusedBy r n v → after ≡ before
   refused_next_leaves_reader n v e =
       ap₂ {C = LogReader} (λ l o. record { log = l; place = after.place; opened = o }) next.same_log next.same_opened
-      ∙ ap (λ i. record { log = before.log; place = i; opened = before.opened }) (refused_log_read_keeps_place before.log.now before.place (gives r after.place) next.read n v e)
+      ∙ ap (λ i. record { log = before.log; place = i; opened = before.opened }) (refused_log_read_keeps_place before.log.now before.place r after.place next.read n v e)
 
 -- Judging a log.
-pub log_judge_refuses : (set b : List ℕ) (r : Judgement) → LogJudgedAs longest set b r → Refuses judge.Refused LogJudgeNumber (first (log_judge_rows longest set b)) r
-log_judge_refuses set b r judged = by_judged LogJudgeNumber (log_judge_rows longest set b) r (log_judge_numbers longest set b) judged.refusal
+pub log_judge_refuses : (set b : List ℕ) (r : Result (Option Loss) Refused) → LogJudgedAs longest set b r → Refuses LogJudgeNumber (first (log_judge_rows longest set b)) r
+log_judge_refuses set b r judged = refuses LogJudgeNumber (log_judge_rows longest set b) r (log_judge_numbers longest set b) judged.refusal
 
 -- The boundary.
 from_15 : (n : ℕ) → FromTo 15 16 n → 1 ≤ n
@@ -98,15 +93,19 @@ module _ (b : List ℕ) (f : FloeLogOpened) (flat : FlatAnswer (OpenedAs b) flat
   pub floe_log_open_at_0 : f.place ≡ 0
   floe_log_open_at_0 = rw flat.2 (go flat.0)
     where
-      go : (a : OpenAnswer) → (flat_opened a).place ≡ 0
-      go opening.Opened = refl
-      go (opening.Refused n v) = refl
+      go : (a : Result ⊤ Refused) → (flat_opened a).place ≡ 0
+      go (Ok x) = refl
+      go (Err why) = refl
+
+-- the record of a call
+abbrev flat_called : LogRead → FloeLogRead
+flat_called a = flat_log_read (a.answer, a.place)
 
 -- what a call answers at a place of the outcomes p
-hands_out : (p : List Bool) (i : ℕ) → ByOutcomes p i (flat_log_read (read_when passed p i)).answer (flat_log_read (read_when passed p i)).place
+hands_out : (p : List Bool) (i : ℕ) → ByOutcomes p i (flat_called (read_when p i)).answer (flat_called (read_when p i)).place
 hands_out p i = dite (dec_lt i (length p)) (λ h. there h (outcome_at p i) refl) past
   where
-    there : i < length p → (o : Bool) → outcome_at p i ≡ o → ByOutcomes p i (flat_log_read (read_when passed p i)).answer (flat_log_read (read_when passed p i)).place
+    there : i < length p → (o : Bool) → outcome_at p i ≡ o → ByOutcomes p i (flat_called (read_when p i)).answer (flat_called (read_when p i)).place
     there h true e = rw (lt-ltb i (length p) h, e) (record {
       miss = (λ z. absurd (omega arith), λ (_, z). absurd (true≢false (sym e ∙ z)));
       hit = (λ z. (h, e), λ z. refl);
@@ -122,7 +121,7 @@ hands_out p i = dite (dec_lt i (length p)) (λ h. there h (outcome_at p i) refl)
       stays = λ z. absurd (omega arith);
     })
 
-    past : (i < length p → ⊥) → ByOutcomes p i (flat_log_read (read_when passed p i)).answer (flat_log_read (read_when passed p i)).place
+    past : (i < length p → ⊥) → ByOutcomes p i (flat_called (read_when p i)).answer (flat_called (read_when p i)).place
     past h = rw (le-ltb i (length p) (omega arith)) (record {
       miss = (λ z. absurd (omega arith), λ (z, _). absurd (h z));
       hit = (λ z. absurd (omega arith), λ (z, _). absurd (h z));
@@ -131,25 +130,22 @@ hands_out p i = dite (dec_lt i (length p)) (λ h. there h (outcome_at p i) refl)
       stays = λ z. refl;
     })
 
-module _ (b : List ℕ) (place : ℕ) (f : FloeLogRead) (flat : FlatAnswer (ReadAs b place) flat_log_read f) where
+module _ (b : List ℕ) (place : ℕ) (f : FloeLogRead) (flat : FlatAnswer (λ a. ReadAs b place a.0 a.1) flat_log_read f) where
   pub floe_log_next_refuses : RefusesFlat (FromTo 15 16) (first (log_rows b)) f.refused f.at
-  floe_log_next_refuses = rw flat.2 (opens_refuses (FromTo 15 16) (log_rows b) from_15 (log_numbers b) (read_opens flat.0.answer flat.0.place) flat.1.refusal)
-
-  -- the record, by what the tests say and by the outcomes
-  known : f ≡ flat_log_read (read_when (first (log_rows b)) (outcomes_of b) place)
-  known = flat.2 ∙ ap flat_log_read (read_known b place flat.0 flat.1)
+  floe_log_next_refuses = rw flat.2 (opens_refuses (FromTo 15 16) (log_rows b) from_15 (log_numbers b) (read_opens flat.0.0 flat.0.1) flat.1.refusal)
 
   -- 3 is answered exactly on a refusal, which keeps the place
   pub floe_log_next_refused : (f.answer ≡ 3) ↔ (f.refused ≡ 0 → ⊥)
-  floe_log_next_refused = rw flat.2 (refused_read_lem flat.0.answer flat.0.place (λ n v q. from_15 n ((log_read_refuses b place flat.0 flat.1).numbers n v q)))
+  floe_log_next_refused = rw flat.2 (refused_read_lem flat.0.0 flat.0.1 (λ n v q. from_15 n ((log_read_refuses b place flat.0.0 flat.0.1 flat.1).numbers n v q)))
 
   pub floe_log_next_keeps_place : (n v : ℕ) → first (log_rows b) ≡ refused n v → f.place ≡ place
-  floe_log_next_keeps_place n v e = ap (λ z. z.place) (known ∙ ap (λ t. flat_log_read (read_when t (outcomes_of b) place)) e)
+  floe_log_next_keeps_place n v e =
+      ap (λ z. z.place) flat.2 ∙ read_place flat.0.0 flat.0.1 ∙ refused_log_read_keeps_place b place flat.0.0 flat.0.1 flat.1 n v (((log_read_refuses b place flat.0.0 flat.0.1 flat.1).exactly n v).1 e)
 
   -- and on a log the answer is that of the outcome at the place
   pub floe_log_next_hands_out : first (log_rows b) ≡ passed → ByOutcomes (outcomes_of b) place f.answer f.place
   floe_log_next_hands_out e =
-      let q = known ∙ ap (λ t. flat_log_read (read_when t (outcomes_of b) place)) e in
+      let q = flat.2 ∙ ap flat_called (read_known b place flat.0.0 flat.0.1 flat.1 e) in
       rw (ap (λ z. z.answer) q, ap (λ z. z.place) q) (hands_out (outcomes_of b) place)
 
 pub floe_log_judge_refuses : (set b : List ℕ) (f : FloeVerdict) → FlatAnswer (LogJudgedAs longest set b) flat_verdict f → RefusesFlat LogJudgeNumber (first (log_judge_rows longest set b)) f.refused f.at

@@ -7,8 +7,12 @@ use Prim.Native.Nat.{ℕ, suc, ◌-◌}
 use native.Mathlib.Omega.{arith}
 use lib.ListN.{length, take, drop, replicate, length-append, length-replicate, length-drop, take-append-drop}
 use lib.Seq.{drop_at}
+use Rattle.std.specs.Prelude.{⊤, Result, Ok, Err}
+use Rattle.layout.specs.declared.Refused.{Refused}
+use Rattle.layout.specs.declared.Refused.TheVariants.{OldRecord}
 use Rattle.layout.specs.Refusal.{Tested, passed, refused, first}
 use Rattle.layout.proofs.Rows.{refused_before}
+use Rattle.layout.proofs.Refusals.{same_answer}
 use Rattle.patterns.specs.Outcome.{outcome}
 use Rattle.machines.specs.Machine.{walk}
 use Rattle.meaning.specs.Longest.{longest}
@@ -22,16 +26,12 @@ use Rattle.sets.specs.Bytes.{set_of}
 use Rattle.sets.specs.Rows.{set_rows}
 use Rattle.table.specs.Bytes.{machine_of}
 use Rattle.guard.specs.declared.Guard.{Guard}
-use Rattle.guard.specs.declared.Started.{Started}
-use Rattle.guard.specs.declared.StartAnswer.TheVariants as start
-use Rattle.guard.specs.declared.Asked.{Asked}
-use Rattle.guard.specs.declared.Told.{Told}
-use Rattle.guard.specs.declared.AskAnswer.{AskAnswer}
-use Rattle.guard.specs.declared.AskAnswer.TheVariants as ask
-use Rattle.guard.specs.Guard.{fresh, StandingBy, AskedAs, after_by, after, tell_rows, told_when, told_of, ToldAs}
+use Rattle.guard.specs.declared.Answer.{Answer}
+use Rattle.guard.specs.declared.Answer.TheVariants.{Normal, Panic, Lost}
+use Rattle.guard.specs.Guard.{fresh, guard_in, StandingBy, AskedAs, after_by, after, tell_rows, told_when, told_of, ToldAs}
 use Rattle.guard.specs.Told.{told_all}
 use Rattle.guard.proofs.Latest.{latest_whole}
-use Rattle.guard.proofs.OneResult.{same_start, ask_one_result, same_tell}
+use Rattle.guard.proofs.OneResult.{ask_one_result}
 use Rattle.carry.specs.Bytes.{old_version, old_carried, carried}
 use Rattle.carry.specs.Rows.{wider, version_rows}
 use Rattle.carry.specs.Read.{ReadBackAs}
@@ -87,27 +87,27 @@ module _ (b : List ℕ) where
   alike_told_all g g' a (byte ∷ bytes) = alike_told_all (told_of b g byte) (told_of b g' byte) (alike_told g g' a byte) bytes
 
   -- They hear the same.
-  stands_alike : (miss : Option ℕ) (g : Guard) (os : List Bool) (a : AskAnswer) → StandingBy miss (holding g os) a → StandingBy miss g a
-  stands_alike miss g os ask.Normal s = s
-  stands_alike miss g os ask.Panic s = s
-  stands_alike miss g os ask.Lost s = s
-  stands_alike miss g os (ask.Refused n v) s = s
+  stands_alike : (miss : Option ℕ) (g : Guard) (os : List Bool) (a : Result Answer Refused) → StandingBy miss (holding g os) a → StandingBy miss g a
+  stands_alike miss g os (Ok Normal) s = s
+  stands_alike miss g os (Ok Panic) s = s
+  stands_alike miss g os (Ok Lost) s = s
+  stands_alike miss g os (Err e) s = s
 
   module _ (g g' : Guard) (a : Alike g g') where
     -- an ask of the one is an ask of the other
-    pub asked_alike : (r : Asked) → AskedAs b g' r → AskedAs b g (record { answer = r.answer; guard = g })
+    pub asked_alike : (r : Result Answer Refused) → AskedAs b g' r → AskedAs b g r
     asked_alike r asked =
         let q = subst (λ z. AskedAs b z r) (sym (same_but g g' a)) asked in
-        record { refusal = q.refusal; answer = stands_alike _ g g'.outcomes r.answer q.answer; guard = refl }
+        record { refusal = q.refusal; answer = stands_alike _ g g'.outcomes r q.answer }
 
-    pub alike_asked : (r r' : Asked) → AskedAs b g r → AskedAs b g' r' → r.answer ≡ r'.answer
-    alike_asked r r' asked asked' = ap (λ z. z.answer) (ask_one_result b g r (record { answer = r'.answer; guard = g }) asked (asked_alike r' asked'))
+    pub alike_asked : (r r' : Result Answer Refused) → AskedAs b g r → AskedAs b g' r' → r ≡ r'
+    alike_asked r r' asked asked' = ask_one_result b g r r' asked (asked_alike r' asked')
 
-    pub alike_tells : (byte : ℕ) (r r' : Told) → ToldAs b g byte r → ToldAs b g' byte r' → (r.answer ≡ r'.answer) × Alike r.guard r'.guard
-    alike_tells byte r r' told told' =
-        let q = subst (λ z. ToldAs b z byte r') (sym (same_but g g' a)) told' in (
-          same_tell r.answer r'.answer (told.refusal ∙ sym q.refusal),
-          subst (λ z. Alike z r'.guard) (sym told.guard) (subst (Alike (told_of b g byte)) (sym told'.guard) (alike_told g g' a byte)),
+    pub alike_tells : (byte : ℕ) (r r' : Result ⊤ Refused) (h h' : Guard) → ToldAs b g byte r h → ToldAs b g' byte r' h' → (r ≡ r') × Alike h h'
+    alike_tells byte r r' h h' told told' =
+        let q = subst (λ z. ToldAs b z byte r' h') (sym (same_but g g' a)) told' in (
+          same_answer r r' (told.refusal ∙ sym q.refusal) (λ x y e f. refl),
+          subst (λ z. Alike z h') (sym told.guard) (subst (Alike (told_of b g byte)) (sym told'.guard) (alike_told g g' a byte)),
         )
 
 module _ (set b : List ℕ) (t : TableOf set b) (g : Guard) (led : LedThere set b t g) where
@@ -151,12 +151,12 @@ module _ (set b : List ℕ) (t : TableOf set b) (g : Guard) (led : LedThere set 
     again = holding g held_again
 
     -- There is such a reading, and no other.
-    pub old_record_can_be_read : ReadBackAs longest carried (old_record_of set g) b (record { answer = start.Started; guard = again })
+    pub old_record_can_be_read : ReadBackAs longest carried (old_record_of set g) b (Ok again)
     old_record_can_be_read =
         read_in_version longest carried old_version old_carried set (with_last old_carried g) last_many (made_accepted set b t) narrow b (made_checked set b t) g.state leads_again
 
-    pub old_record_gives : (back : Started) → ReadBackAs longest carried (old_record_of set g) b back → back ≡ record { answer = start.Started; guard = again }
-    old_record_gives back read = read_back_one_result longest carried (old_record_of set g) b back (record { answer = start.Started; guard = again }) read old_record_can_be_read
+    pub old_record_gives : (back : Result Guard Refused) → ReadBackAs longest carried (old_record_of set g) b back → back ≡ Ok again
+    old_record_gives back read = read_back_one_result longest carried (old_record_of set g) b back (Ok again) read old_record_can_be_read
 
     led_again : LedThere set b t again
     led_again = record {
@@ -166,10 +166,10 @@ module _ (set b : List ℕ) (t : TableOf set b) (g : Guard) (led : LedThere set 
     }
 
     -- After later tells and changes it is still alike to the guard that was told the same and never switched off.
-    pub old_record_goes_on : (back : Started) → ReadBackAs longest carried (old_record_of set g) b back → (later : List Event) (h : Guard) → Through set b back.guard later h
+    pub old_record_goes_on : (back : Result Guard Refused) → ReadBackAs longest carried (old_record_of set g) b back → (later : List Event) (h : Guard) → Through set b (guard_in back) later h
         → Alike (told_all b g (told_in later)) h
     old_record_goes_on back read later h run =
-        let from_again = subst (λ z. Through set b z later h) (ap (λ z. z.guard) (old_record_gives back read)) run in
+        let from_again = subst (λ z. Through set b z later h) (ap guard_in (old_record_gives back read)) run in
         subst (Alike (told_all b g (told_in later))) (sym (through_told set b t again led_again later h from_again))
         (alike_told_all b g again (record { state = refl; lost = refl; count = refl }) (told_in later))
 
@@ -180,9 +180,13 @@ floe_old_record_gives set b t g led narrow f (back, read, e) =
     let same = e ∙ ap flat_started (old_record_gives set b t g led narrow back read) in
     (ap (λ z. z.refused) same, subst (Alike g) (sym (ap (λ z. z.guard) same)) (record { state = refl; lost = refl; count = refl }))
 
+err_not_ok : {A : Type 0} {r : Refused} {x : A} → Err r ≡ Ok x → ⊥
+err_not_ok e = cc
+
 -- A set with a wider window: refused by 20, on every table.
 pub old_record_too_wide : (set b : List ℕ) (g : Guard) → first (set_rows longest set) ≡ passed → wider (suc old_carried) (set_of set) ≡ true → length (with_last old_carried g).outcomes ≡ old_carried
-    → (back : Started) → ReadBackAs longest carried (old_record_of set g) b back → back.answer ≡ start.Refused 20 0
+    → (back : Result Guard Refused) → ReadBackAs longest carried (old_record_of set g) b back → back ≡ Err OldRecord
 old_record_too_wide set b g accepted wide many back read =
-    same_start back.answer (start.Refused 20 0)
+    same_answer back (Err OldRecord)
     (read.refusal ∙ refused_before (version_rows longest old_version old_carried (old_record_of set g)) _ (record_too_wide longest old_version old_carried set (with_last old_carried g) accepted wide many))
+    (λ x y e f. absurd (err_not_ok f))

@@ -3,18 +3,23 @@ use mathlib.Core.Path.{◌≡◌, refl, sym, ap, ◌∙◌, subst}
 use mathlib.Core.List.{List}
 use Prim.Native.Nat.{ℕ, ◌≤◌}
 use native.Mathlib.Omega.{arith}
+use Rattle.std.specs.Prelude.{Result, Ok, Err}
+use Rattle.layout.specs.declared.Refused.{Refused}
 use Rattle.layout.specs.Refusal.{Row, Tested, passed, refused, first}
+use Rattle.layout.specs.Refused.{says}
 use Rattle.layout.proofs.Rows.{Numbers, first_number, passed_not_refused}
-use Rattle.demands.specs.Refusing.{Refuses, RefusesFlat}
+use Rattle.demands.specs.Refusing.{RefusedBy, Refuses, RefusesFlat}
 
--- by what an answer says, where a refusal is known from that
-pub refuses : {A : Type 0} (says : A → Tested) (Refused : ℕ → ℕ → A) (Number : ℕ → Type 0) (rows : List Row) (r : A)
-    → ((n v : ℕ) → says (Refused n v) ≡ refused n v) → ((n v : ℕ) → says r ≡ refused n v → r ≡ Refused n v)
-    → Numbers Number rows → says r ≡ first rows → Refuses Refused Number (first rows) r
-refuses says Refused Number rows r said known all e = record {
-  exactly = λ n v. (λ q. sym e ∙ ap says q ∙ said n v, λ q. known n v (e ∙ q));
-  numbers = λ n v q. first_number Number rows n v all (sym e ∙ ap says q ∙ said n v);
+-- an answer whose tests are those of the rows, each of which has a number of the entry
+pub refuses : {A : Type 0} (Number : ℕ → Type 0) (rows : List Row) (r : Result A Refused) → Numbers Number rows → says r ≡ first rows → Refuses Number (first rows) r
+refuses {A} Number rows r all e = record {
+  exactly = λ n v. (λ (why, is, row). sym e ∙ ap says is ∙ row, λ q. known r n v (e ∙ q));
+  numbers = λ n v (why, is, row). first_number Number rows n v all (sym e ∙ ap says is ∙ row);
 }
+  where
+    known : (r : Result A Refused) (n v : ℕ) → says r ≡ refused n v → RefusedBy r n v
+    known (Ok x) n v q = absurd (passed_not_refused q)
+    known (Err why) n v q = (why, refl, q)
 
 -- the fields `refused` and `at`: a number of the rules and what is returned beside it, or 0 and 0
 abbrev pub number_of : Tested → ℕ

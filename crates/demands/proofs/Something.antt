@@ -8,31 +8,33 @@ use mathlib.Core.List.{List, [], ◌∷◌, ◌++◌}
 use Prim.Native.Nat.{ℕ, ◌<◌}
 use native.Mathlib.Omega.{arith}
 use lib.ListN.{replicate}
+use Rattle.std.specs.Prelude.{Result, Ok}
+use Rattle.layout.specs.declared.Refused.{Refused}
 use Rattle.layout.specs.Refusal.{passed, first}
 use Rattle.machines.specs.Machine.{Machine}
 use Rattle.machines.proofs.Walk.{walk_below}
+use Rattle.meaning.specs.declared.LimitSet.{LimitSet}
 use Rattle.meaning.specs.Sets.{KeptBy, LimitsNothing, Panic}
 use Rattle.meaning.proofs.Nothing.{something_panics}
 use Rattle.sets.specs.Bytes.{set_of}
 use Rattle.sets.specs.Rows.{set_rows}
-use Rattle.sets.specs.declared.SetRead.{SetRead}
-use Rattle.sets.specs.declared.SetAnswer.TheVariants as read
 use Rattle.sets.specs.Read.{ReadAs}
 use Rattle.sets.proofs.Accepted.{accepted_allowed, accepted_something}
 use Rattle.sets.proofs.Numbers.{seven_rows, nothing_refused}
 use Rattle.table.specs.Bytes.{machine_of, state_count}
 use Rattle.table.proofs.Checked.{checked_well_made}
-use Rattle.guard.specs.declared.Asked.{Asked}
-use Rattle.guard.specs.declared.AskAnswer.TheVariants as ask
+use Rattle.guard.specs.declared.Answer.{Answer}
+use Rattle.guard.specs.declared.Answer.TheVariants as answer
 use Rattle.guard.specs.Guard.{fresh, AskedAs}
 use Rattle.guard.specs.Told.{told_all}
 use Rattle.guard.proofs.Heard.{heard_same}
+use Rattle.demands.specs.Refusing.{RefusedBy}
 use Rattle.demands.specs.TableOf.{TableOf}
 use Rattle.demands.proofs.Tables.{made_taken, made_checked, made_walks_kept}
 use Rattle.demands.proofs.Guarded.{answers_by_meaning, miss_blocked}
 use Rattle.demands.proofs.Demand1.{read_refuses}
 
-pub read_refuses_nothing : (widest : ℕ) (b : List ℕ) (r : SetRead) → ReadAs widest b r → (r.answer ≡ read.Refused 21 0) ↔ ((first (seven_rows widest b) ≡ passed) × LimitsNothing (set_of b))
+pub read_refuses_nothing : (widest : ℕ) (b : List ℕ) (r : Result LimitSet Refused) → ReadAs widest b r → RefusedBy r 21 0 ↔ ((first (seven_rows widest b) ≡ passed) × LimitsNothing (set_of b))
 read_refuses_nothing widest b r read = Iff.trans ((read_refuses widest b r read).exactly 21 0) (nothing_refused widest b)
 
 module _ (widest : ℕ) (b : List ℕ) (accepted : first (set_rows widest b) ≡ passed) where
@@ -53,7 +55,7 @@ module _ (set b : List ℕ) (t : TableOf set b) where
       let made = checked_well_made b (made_checked set b t) in
       (s, walk_below m made 0 s (replicate n false) made.start_below w, miss_blocked set b t (replicate n false) s w p.miss_loses)
 
-  pub misses_reach_panic : (n : ℕ) × (n < t.widest) × ((r : Asked) → AskedAs b (told_all b fresh (replicate n 0)) r → r.answer ≡ ask.Panic)
+  pub misses_reach_panic : (n : ℕ) × (n < t.widest) × ((r : Result Answer Refused) → AskedAs b (told_all b fresh (replicate n 0)) r → r ≡ Ok answer.Panic)
   misses_reach_panic =
       let (n, l, p) = accepted_panics t.widest set (made_taken set b t) in
       let few = t.edition in

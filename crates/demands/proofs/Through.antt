@@ -5,12 +5,12 @@ use Prim.Native.Nat.{ℕ, suc, ◌≤◌}
 use native.Mathlib.Omega.{arith}
 use lib.ListN.{length, drop}
 use lib.Seq.{take_at}
+use Rattle.std.specs.Prelude.{Result, Ok}
+use Rattle.layout.specs.declared.Refused.{Refused}
 use Rattle.meaning.specs.Longest.{longest}
 use Rattle.guard.specs.declared.Guard.{Guard}
-use Rattle.guard.specs.declared.Started.{Started}
-use Rattle.guard.specs.declared.StartAnswer.TheVariants as start
 use Rattle.table.specs.Bytes.{machine_of}
-use Rattle.guard.specs.Guard.{fresh, told_of}
+use Rattle.guard.specs.Guard.{fresh, guard_in, told_of}
 use Rattle.guard.specs.Told.{told_all}
 use Rattle.guard.proofs.Walked.{Led, led_start, led_told}
 use Rattle.carry.specs.Bytes.{new_version, carried, size_of, record_of}
@@ -28,12 +28,12 @@ module _ (set b : List ℕ) (t : TableOf set b) where
   LedThere g = Led (machine_of b) 0 fresh.outcomes g
 
   module _ (g : Guard) (led : LedThere g) where
-    pub change_gives_back : (r : Started) → Changed set b g r → r ≡ record { answer = start.Started; guard = g }
+    pub change_gives_back : (r : Result Guard Refused) → Changed set b g r → r ≡ Ok g
     change_gives_back r c =
         carried_back longest carried set g (outcomes_many set b t g led) refl b c.out c.out' c.size r (made_checked set b t) (outcomes_lead set b t g led) c.written c.back
 
     -- and with room for the record there is a change
-    pub change_can_be_had : (out : List ℕ) → size_of carried set ≤ length out → Changed set b g (record { answer = start.Started; guard = g })
+    pub change_can_be_had : (out : List ℕ) → size_of carried set ≤ length out → Changed set b g (Ok g)
     change_can_be_had out room =
         let many = outcomes_many set b t g led in
         let accepted = made_accepted set b t in
@@ -44,17 +44,17 @@ module _ (set b : List ℕ) (t : TableOf set b) where
           size = size_of carried set;
           written = can_be_written longest carried set g many out accepted room;
           back =
-              subst (λ z. ReadBackAs longest carried z b (record { answer = start.Started; guard = g })) (sym (take_at r (drop (size_of carried set) out) (size_of carried set) (record_length new_version carried set g many)))
+              subst (λ z. ReadBackAs longest carried z b (Ok g)) (sym (take_at r (drop (size_of carried set) out) (size_of carried set) (record_length new_version carried set g many)))
               (reads_back longest carried set g many refl b accepted (made_checked set b t) (outcomes_lead set b t g led));
         }
 
   -- from there on
   pub through_told : (g : Guard) → LedThere g → (events : List Event) (h : Guard) → Through set b g events h → h ≡ told_all b g (told_in events)
   through_told g led [] h e = e
-  through_told g led (tells byte ∷ events) h (r, answered, rest) =
+  through_told g led (tells byte ∷ events) h (r, g', answered, rest) =
       through_told (told_of b g byte) (led_told b 0 fresh.outcomes g (byte ∷ []) led) events h (subst (λ z. Through set b z events h) answered.guard rest)
   through_told g led (changes ∷ events) h (r, changed, rest) =
-      through_told g led events h (subst (λ z. Through set b z events h) (ap (λ z. z.guard) (change_gives_back g led r changed)) rest)
+      through_told g led events h (subst (λ z. Through set b z events h) (ap guard_in (change_gives_back g led r changed)) rest)
 
   -- a guard that start gave, told any bytes
   pub led_from_start : (told : List ℕ) → LedThere (told_all b fresh told)
@@ -63,8 +63,8 @@ module _ (set b : List ℕ) (t : TableOf set b) where
 -- a run can be cut before a tell: up to there it is a run too
 pub through_cut : (set b : List ℕ) (g : Guard) (before after : List Event) (h : Guard) → Through set b g (before ++ after) h → (i : Guard) × Through set b g before i
 through_cut set b g [] after h run = (g, refl)
-through_cut set b g (tells byte ∷ before) after h (r, answered, rest) = let (i, cut) = through_cut set b r.guard before after h rest in (i, (r, answered, cut))
-through_cut set b g (changes ∷ before) after h (r, changed, rest) = let (i, cut) = through_cut set b r.guard before after h rest in (i, (r, changed, cut))
+through_cut set b g (tells byte ∷ before) after h (r, g', answered, rest) = let (i, cut) = through_cut set b g' before after h rest in (i, (r, g', answered, cut))
+through_cut set b g (changes ∷ before) after h (r, changed, rest) = let (i, cut) = through_cut set b (guard_in r) before after h rest in (i, (r, changed, cut))
 
 -- where bytes told are cut before a byte, so are the events before its tell
 pub events_cut : (events : List Event) (before after : List ℕ) (byte : ℕ) → told_in events ≡ before ++ (byte ∷ after) → (es : List Event) × (fs : List Event) × (events ≡ es ++ (tells byte ∷ fs)) × (told_in es ≡ before)
