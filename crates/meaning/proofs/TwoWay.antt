@@ -65,9 +65,6 @@ up_part a p b (pos n) = λ e. up_front p b n (sym (get_or-append-add a (p ++ b) 
 pub kept_part : (l : Rule) (a p b : List Bool) → Kept l (a ++ (p ++ b)) → Kept l p
 kept_part l a p b h = kept_of l (around (a ++ (p ++ b))) (pos (length a)) p (up_part a p b) h
 
-pub kept_prefix : (l : Rule) (p b : List Bool) → Kept l (p ++ b) → Kept l p
-kept_prefix l p b h = kept_part l [] p b h
-
 get_d_hit : (p : List Bool) (n : ℕ) → get_or (p ++ true ∷ []) n true ≡ get_or p n true
 get_d_hit [] zero = refl
 get_d_hit [] (suc n) = refl

@@ -1,5 +1,5 @@
 -- What allowed numbers say of windows: that of a limit has at least one job and no more than the longest, and a set stays allowed where the longest is cut down to its own widest, or raised. Assumes nothing.
-use mathlib.Core.Path.{◌≡◌, refl, ap, subst}
+use mathlib.Core.Path.{◌≡◌, subst}
 use Prim.Native.Nat.{ℕ, zero, suc, ◌≤◌, ◌<◌}
 use native.Mathlib.Omega.{arith}
 use Rattle.meaning.specs.declared.Limit.{Limit}
@@ -17,20 +17,8 @@ allowed_numbers w l a = go l.kind a.rule_allowed
     go (suc (suc zero)) a h = a
     go (suc (suc (suc kind))) a h = absurd (omega arith)
 
-pub window_is_k : (l : Limit) → l.kind ≤ 2 → width (rule_of l) ≡ l.k
-window_is_k l = go l.kind
-  where
-    go : (kind : ℕ) → kind ≤ 2 → width (rule_from kind l.x l.k) ≡ l.k
-    go zero h = refl
-    go (suc zero) h = refl
-    go (suc (suc zero)) h = refl
-    go (suc (suc (suc kind))) h = absurd (omega arith)
-
 pub allowed_row_miss : (w : ℕ) (l : Limit) → Allowed w l → l.kind ≡ 3 → (1 ≤ l.x) × (l.x ≤ w)
 allowed_row_miss w l a e = subst (λ kind. RuleAllowed w (rule_from kind l.x l.k)) e a.rule_allowed
-
-pub window_is_x : (l : Limit) → l.kind ≡ 3 → width (rule_of l) ≡ l.x
-window_is_x l e = ap (λ kind. width (rule_from kind l.x l.k)) e
 
 pub width_allowed : (w : ℕ) (l : Rule) → RuleAllowed w l → (1 ≤ width l) × (width l ≤ w)
 width_allowed w (any_hit x k) (a, b, c) = (a, b)
