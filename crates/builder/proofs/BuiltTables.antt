@@ -9,8 +9,9 @@ use native.Mathlib.Omega.{arith}
 use lib.ListN.{take, drop}
 use lib.Pow.{pow_mono}
 use lib.Seq.{take_at}
+use Rattle.std.specs.Prelude.{Ok}
 use Rattle.layout.specs.Refusal.{passed, first}
-use Rattle.layout.specs.Write.{room_row, length_when}
+use Rattle.layout.specs.Write.{room_row, length_when, buffer_when}
 use Rattle.layout.proofs.Rows.{both_passed}
 use Rattle.machines.specs.Machine.{Machine, Walks}
 use Rattle.machines.specs.Canonical.{Canonical, OneTable}
@@ -31,8 +32,7 @@ use Rattle.table.specs.Bytes.{machine_of, bytes_of, size_of}
 use Rattle.table.specs.Rows.{table_rows}
 use Rattle.table.specs.Writable.{Writable}
 use Rattle.table.proofs.Bytes.{machine_of_bytes, bytes_checked, bytes_length}
-use Rattle.builder.specs.declared.BuildAnswer.TheVariants.{Built}
-use Rattle.builder.specs.Build.{area_row, early_rows, build_rows, table_when, BuiltAs}
+use Rattle.builder.specs.Build.{area_row, early_rows, build_rows, BuiltAs}
 
 module _ (widest : ℕ) (s : LimitSet) (ok : SetAllowed widest s) (m : Machine) (canonical : Canonical m (KeptBy s)) where
   abbrev source : Machine
@@ -61,12 +61,12 @@ module _ (widest : ℕ) (s : LimitSet) (ok : SetAllowed widest s) (m : Machine) 
   }
 
 -- what a build that wasn't refused says
-module _ (widest : ℕ) (set work work' table table' : List ℕ) (size : ℕ) (built : BuiltAs widest set work work' table table' (Built size)) where
+module _ (widest : ℕ) (set work work' table table' : List ℕ) (size : ℕ) (built : BuiltAs widest set work work' table table' (Ok size)) where
   abbrev m : Machine
   m = built.0
 
   all_passed : first (build_rows widest set work table (size_of m.states)) ≡ passed
-  all_passed = sym built.1.answer
+  all_passed = sym built.1.written.answer
 
   early_passed : first (early_rows widest set work) ≡ passed
   early_passed = (both_passed (early_rows widest set work) (room_row table (size_of m.states) ∷ []) all_passed).0
@@ -81,7 +81,7 @@ module _ (widest : ℕ) (set work work' table table' : List ℕ) (size : ℕ) (b
   built_canonical = built.1.canonical early_passed
 
   built_size : size ≡ size_of m.states
-  built_size = built.1.returned ∙ ap (λ z. length_when z (size_of m.states)) all_passed
+  built_size = built.1.written.length_written ∙ ap (λ z. length_when z (size_of m.states)) all_passed
 
   -- the table: as many bytes of the buffer as the builder returned
   abbrev pub bytes : List ℕ
@@ -89,7 +89,7 @@ module _ (widest : ℕ) (set work work' table table' : List ℕ) (size : ℕ) (b
 
   pub built_bytes : bytes ≡ bytes_of m
   built_bytes =
-      ap₂ take built_size (built.1.table_after ∙ ap (λ z. table_when z m table) all_passed)
+      ap₂ take built_size (built.1.written.buffer ∙ ap (λ z. buffer_when z (size_of m.states) (bytes_of m) table) all_passed)
       ∙ take_at (bytes_of m) (drop (size_of m.states) table) (size_of m.states) (bytes_length m)
 
   -- within the windows of the library

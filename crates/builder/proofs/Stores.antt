@@ -1,13 +1,12 @@
 -- Rows stored one after the other: what is written so far, and then the buffer as it was. Assumes nothing.
 use mathlib.Core.Path.{◌≡◌, sym, ap, ap₂, ◌∙◌}
-use mathlib.Core.List.{List, [], ◌∷◌, ◌++◌, append_assoc}
-use Prim.Native.Nat.{ℕ, zero, suc, ◌+◌, ◌*◌, ◌/◌, ◌%◌, ◌≤◌}
+use mathlib.Core.List.{List, [], ◌++◌, append_assoc}
+use Prim.Native.Nat.{ℕ, zero, suc, ◌+◌, ◌*◌, ◌≤◌}
 use native.Mathlib.Numerals.{add-one}
 use native.Mathlib.Omega.{arith}
-use lib.ListN.{length, set, take, drop, length-append, length-drop, take-append-drop}
-use lib.Seq.{take_at, drop-drop, length-take-le, sets-eq, drop-append-add}
+use lib.ListN.{length, take, drop, length-append, take-append-drop}
+use lib.Seq.{take_at, drop-drop, length-take-le, drop-append-add}
 use mathlib.Core.Bool.{true, false}
-use Rattle.layout.specs.Bytes.{four_bytes}
 use Rattle.machines.specs.Machine.{Machine}
 use Rattle.table.specs.Bytes.{pair_bytes, entry_of, row_bytes, head_then}
 use Rattle.table.proofs.Bytes.{length_rows}
@@ -46,12 +45,6 @@ row_more m d out i fits e =
     ∙ append_assoc (take 7 d) (row_bytes m 0 i) (r ++ drop (at + 4) d)
     ∙ ap (λ y. take 7 d ++ y) (sym (append_assoc (row_bytes m 0 i) r (drop (at + 4) d)))
     ∙ ap₂ (λ x k. take 7 d ++ (x ++ drop k d)) (ap (λ k. row_bytes m 0 i ++ row_of m k) (sym z) ∙ sym (rows_more m 0 i) ∙ ap (row_bytes m 0) (sym (add-one i))) n
-
--- the rest of the head, after its length field
-pub head_stores : (n : ℕ) (out : List ℕ) → 7 ≤ length out → set (set (set (four_bytes (3 + 4 * n) ++ drop 4 out) 4 1) 5 (n / 256)) 6 (n % 256) ≡ head_then n (drop 7 out)
-head_stores n out h =
-    ap (λ z. four_bytes (3 + 4 * n) ++ z)
-    (sets-eq (1 ∷ pair_bytes n []) (drop 4 out) 0 (simp length-drop (omega arith)) ∙ ap (λ z. 1 ∷ pair_bytes n z) (drop-drop 3 4 out))
 
 -- the head, then the rows, then the buffer as it was
 pub head_and_rows : (n k : ℕ) (out rows : List ℕ) → take 7 (head_then n (drop 7 out)) ++ (rows ++ drop (7 + k) (head_then n (drop 7 out))) ≡ head_then n rows ++ drop (7 + k) out

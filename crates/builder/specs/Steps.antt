@@ -1,17 +1,16 @@
 -- What each step of the builder leaves.
-use Rattle.std.specs.Prelude.{◌≡◌, List, [], ◌∷◌, ℕ}
-use Rattle.layout.specs.Refusal.{first}
-use Rattle.layout.specs.Write.{room_row, length_when}
+use Rattle.std.specs.Prelude.{List, [], ◌∷◌, ℕ, Result}
+use Rattle.layout.specs.declared.Refused.{Refused}
+use Rattle.layout.specs.Write.{room_row, WrittenBy}
 use Rattle.machines.specs.Machine.{Machine}
 use Rattle.machines.specs.Canonical.{Canonical}
 use Rattle.meaning.specs.declared.LimitSet.{LimitSet}
 use Rattle.meaning.specs.Sets.{KeptBy}
-use Rattle.table.specs.Bytes.{size_of}
+use Rattle.table.specs.Bytes.{bytes_of, size_of}
 use Rattle.classes.specs.Area.{Within}
 use Rattle.numbering.specs.Numbered.{numbered_machine}
-use Rattle.builder.specs.declared.BuildAnswer.{BuildAnswer}
 use Rattle.builder.specs.Rows.{Writable}
-use Rattle.builder.specs.Build.{says, length_of, Cleared, table_when}
+use Rattle.builder.specs.Build.{Cleared}
 
 -- the work area holds the canonical machine of the set
 pub record Held (s : LimitSet) (n : ℕ) (w w' : List ℕ) (count : ℕ) : Type 0 where
@@ -20,9 +19,7 @@ pub record Held (s : LimitSet) (n : ℕ) (w w' : List ℕ) (count : ℕ) : Type 
   pub within : Within n w w'
 
 -- the whole, for a set that has been read and a work area that is long enough
-pub record BuildsTable (widest : ℕ) (s : LimitSet) (work work' table table' : List ℕ) (r : BuildAnswer) (m : Machine) : Type 0 where
+pub record BuildsTable (widest : ℕ) (s : LimitSet) (work work' table table' : List ℕ) (r : Result ℕ Refused) (m : Machine) : Type 0 where
   pub canonical : Canonical m (KeptBy s)
-  pub answer : says r ≡ first (room_row table (size_of m.states) ∷ [])
-  pub returned : length_of r ≡ length_when (first (room_row table (size_of m.states) ∷ [])) (size_of m.states)
+  pub written : WrittenBy (room_row table (size_of m.states) ∷ []) (size_of m.states) (bytes_of m) table table' r
   pub cleared : Cleared widest work work'
-  pub table_after : table' ≡ table_when (first (room_row table (size_of m.states) ∷ [])) m table

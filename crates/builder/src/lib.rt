@@ -13,13 +13,8 @@ ghost use Rattle.classes.specs.Area.{used, area_size};
 ghost use Rattle.builder.specs.Build.{ClearedTo, BuiltAs};
 ghost use Rattle.builder.specs.Steps.{Held, BuildsTable};
 
+use layout::Refused;
 use meaning::LimitSet;
-
-#[derive(Clone, Copy)]
-pub enum BuildAnswer {
-    Built(usize),
-    Refused { number: u8, at: usize },
-}
 
 // Entries of the work area where no window is longer than `widest`: four for each history.
 fn area_size(widest: u8) -> usize
@@ -42,12 +37,15 @@ fn clear(work: &mut [u16], size: usize)
     requires { size ≤ length work.old }
     ensures { ClearedTo size work.old work.new }
 {
-    for k in 0..size {
-        work[k] = 0;
-    }
+    work[..size].fill(0);
 }
 
-fn build_table(set: LimitSet, widest: u8, work: &mut [u16], table: &mut [u8]) -> BuildAnswer
+fn build_table(
+    set: LimitSet,
+    widest: u8,
+    work: &mut [u16],
+    table: &mut [u8],
+) -> Result<usize, Refused>
     requires { (1 ≤ widest) × (widest ≤ longest) × SetAllowed widest set × (area_size widest ≤ length work.old) }
     ensures { (m : Machine) × BuildsTable widest set work.old work.new table.old table.new result m }
 {
@@ -58,34 +56,32 @@ fn build_table(set: LimitSet, widest: u8, work: &mut [u16], table: &mut [u8]) ->
     let size = 7 + 4 * count;
     if table.len() < size {
         clear(work, area);
-        return BuildAnswer::Refused {
-            number: 9,
-            at: size,
-        };
+        return Err(Refused::Room { needed: size });
     }
     write::write_table(work, n, count, table);
     clear(work, area);
-    BuildAnswer::Built(size)
+    Ok(size)
 }
 
 // For sets whose windows are at most `widest` jobs. The library and the printing program differ in this number, and
 // the work area goes by it.
-pub fn build_within(set: &[u8], widest: u8, work: &mut [u16], table: &mut [u8]) -> BuildAnswer
+pub fn build_within(
+    set: &[u8],
+    widest: u8,
+    work: &mut [u16],
+    table: &mut [u8],
+) -> Result<usize, Refused>
     requires { (1 ≤ widest) × (widest ≤ longest) }
     ensures { BuiltAs widest set.now work.old work.new table.old table.new result }
 {
-    let read = sets::read_set_within(set, widest);
-    let answer = read.answer;
-    if let sets::SetAnswer::Refused { number, at } = answer {
-        return BuildAnswer::Refused { number, at };
-    }
+    let read = sets::read_set_within(set, widest)?;
     if work.len() < area_size(widest) {
-        return BuildAnswer::Refused { number: 8, at: 0 };
+        return Err(Refused::WorkLength);
     }
-    build_table(read.set, widest, work, table)
+    build_table(read, widest, work, table)
 }
 
-pub fn build(set: &[u8], work: &mut [u16], table: &mut [u8]) -> BuildAnswer
+pub fn build(set: &[u8], work: &mut [u16], table: &mut [u8]) -> Result<usize, Refused>
     ensures { BuiltAs longest set.now work.old work.new table.old table.new result }
 {
     build_within(set, meaning::LONGEST_WINDOW, work, table)

@@ -7,15 +7,21 @@ ghost use Rattle.builder.specs.Rows.{Entries, Writable};
 
 use classes::MAY_MISS;
 
-// A row: where a miss leads and where a hit does, two bytes each, the higher first.
+// Writes a number as two bytes, the higher first.
+fn put_two(out: &mut [u8], at: usize, n: u16)
+    requires { at + 2 ≤ length out.old }
+    ensures { out.new ≡ take at out.old ++ pair_bytes n (drop (at + 2) out.old) }
+{
+    out[at..at + 2].copy_from_slice(&n.to_be_bytes());
+}
+
+// A row: where a miss leads and where a hit does.
 fn put_row(out: &mut [u8], at: usize, miss: u16, hit: u16)
     requires { at + 4 ≤ length out.old }
     ensures { out.new ≡ take at out.old ++ pair_bytes miss (pair_bytes hit (drop (at + 4) out.old)) }
 {
-    out[at] = (miss / 256) as u8;
-    out[at + 1] = (miss % 256) as u8;
-    out[at + 2] = (hit / 256) as u8;
-    out[at + 3] = (hit % 256) as u8;
+    put_two(out, at, miss);
+    put_two(out, at + 2, hit);
 }
 
 // The length field, the version and the number of states.
@@ -25,8 +31,7 @@ fn put_head(out: &mut [u8], n: usize)
 {
     layout::put_four(out, 0, 3 + 4 * n);
     out[4] = 1;
-    out[5] = (n / 256) as u8;
-    out[6] = (n % 256) as u8;
+    put_two(out, 5, n as u16);
 }
 
 // The number and one of the class that an outcome leads to from a history.
@@ -64,13 +69,11 @@ fn put_rows(work: &[u16], n: usize, count: usize, out: &mut [u8])
     requires { Writable n work.now count × (size_of count ≤ length out.old) }
     ensures { out.new ≡ take 7 out.old ++ (row_bytes (numbered_machine n work.now count) 0 count ++ drop (size_of count) out.old) }
 {
-    let mut i = 0;
-    while i < count {
+    for i in 0..count {
         let history = work[3 * n + i] as usize;
         let miss = miss_entry(work, n, history);
         let hit = hit_entry(work, n, history);
         put_row(out, 7 + 4 * i, miss, hit);
-        i += 1;
     }
 }
 

@@ -1,23 +1,19 @@
--- `builder::write::put_row`: four stores in a row. Assumes nothing.
-use mathlib.Core.Path.{◌∙◌}
-use mathlib.Core.List.{[], append_assoc}
-use native.Mathlib.Numerals.{add-one, add-two, add-three}
+-- `builder::write::put_row`: two bytes, and two after them. Assumes nothing.
+use mathlib.Core.Path.{◌≡◌, refl, ap, ◌∙◌}
+use mathlib.Core.List.{[], ◌++◌, append_assoc}
+use Prim.Native.Nat.{◌+◌}
 use native.Mathlib.Omega.{arith}
-use lib.ListN.{take, length-set}
-use lib.Seq.{sets-eq}
+use lib.ListN.{take, drop}
+use Rattle.layout.proofs.Runs.{put_then}
 use Rattle.table.specs.Bytes.{pair_bytes}
 use Rattle.builder.proofs.write.put_row.Goals as goal
-
-pub bounds-out-at-2 : goal.bounds-out-at-2
-bounds-out-at-2 c = simp length-set (omega arith)
-
-pub bounds-out-at-3 : goal.bounds-out-at-3
-bounds-out-at-3 c = simp length-set (omega arith)
-
-pub bounds-out-at-4 : goal.bounds-out-at-4
-bounds-out-at-4 c = simp length-set (omega arith)
 
 pub returns : goal.returns
 returns c =
     let a = c.args in
-    rw (add-one, add-two, add-three) (sets-eq (pair_bytes a.miss (pair_bytes a.hit [])) a.out.now a.at c.requires ∙ append_assoc (take a.at a.out.now) _ _)
+    let d = a.out.now in
+    let four : a.at + 2 + 2 ≡ a.at + 4 = omega arith in
+    c.put_two-2.ensures
+    ∙ ap (λ z. take (a.at + 2) z ++ pair_bytes a.hit (drop (a.at + 2 + 2) z)) c.put_two.ensures
+    ∙ (simp append_assoc at (put_then d (pair_bytes a.miss []) (pair_bytes a.hit []) a.at 2 2 (omega arith) refl))
+    ∙ ap (λ k. take a.at d ++ pair_bytes a.miss (pair_bytes a.hit (drop k d))) four

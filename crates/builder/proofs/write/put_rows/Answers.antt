@@ -17,7 +17,7 @@ entry_miss n w h true e = rw e
 entry_miss n w h false e = rw e
 
 pub loop-i-init : goal.loop-i-init
-loop-i-init c = (omega arith, refl, no_rows _ _)
+loop-i-init c = (refl, no_rows _ _)
 
 pub bounds-work-n : goal.bounds-work-n
 bounds-work-n c = omega (arith, c.requires.0.entries.room, c.requires.0.no_more)
@@ -42,14 +42,13 @@ loop-i-preserved c =
     let x = c.miss_entry-miss.ensures ∙ entry_miss c.args.n w (class_of c.args.n w i) (may_at w (class_of c.args.n w i)) refl in
     let y = c.hit_entry-hit.ensures in
     let out = c.loop-i.out in (
-      omega arith,
-      c.put_row.auto.out ∙ c.loop-i.invariant.1,
+      c.put_row.auto.out ∙ c.loop-i.invariant.0,
       c.put_row.ensures
           ∙ ap₂ (λ a b. take (7 + 4 * i) out ++ pair_bytes a (pair_bytes b (drop (7 + 4 * i + 4) out))) x y
-          ∙ row_more m c.args.out.now out i (omega arith) c.loop-i.invariant.2,
+          ∙ row_more m c.args.out.now out i (omega arith) c.loop-i.invariant.1,
     )
 
 pub returns : goal.returns
 returns c =
     let e : c.loop-i.i ≡ c.args.count = omega arith in
-    c.loop-i.invariant.2 ∙ ap (rows_in (numbered_machine c.args.n c.args.work.now c.args.count) c.args.out.now) e
+    c.loop-i.invariant.1 ∙ ap (rows_in (numbered_machine c.args.n c.args.work.now c.args.count) c.args.out.now) e
