@@ -42,8 +42,7 @@ impl RefusedSet {
         ensures { result ≡ why_of self }
     {
         match self {
-            RefusedSet::First(why) => why,
-            RefusedSet::Second(why) => why,
+            RefusedSet::First(why) | RefusedSet::Second(why) => why,
         }
     }
 }
@@ -69,6 +68,7 @@ impl Pair {
     }
 
     // Whether the first set keeps the outcomes of a history of m outcomes, walked back from the newest to the oldest miss.
+    // A while, since what is left of the history ends the walk, at hits alone, and no count does.
     fn keeps(&self, history: u16) -> bool
         requires { history < 2 ^ self.now.m }
         ensures { (result ≡ true) ↔ KeptBy self.now.first (outcomes_of self.now.m history) }

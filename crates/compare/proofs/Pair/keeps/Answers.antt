@@ -3,8 +3,6 @@ use mathlib.Core.Path.{refl, sym, ◌∙◌}
 use mathlib.Core.Logic.Iff
 use mathlib.Core.Bool.{false≢true}
 use native.Mathlib.Omega.{arith}
-use Rattle.meaning.specs.Longest.{longest}
-use Rattle.meaning.proofs.Widths.{set_wider}
 use Rattle.compare.proofs.Back.{WalkedBack, walked_back, all_hits_kept}
 use Rattle.compare.proofs.Pair.keeps.Goals.{In-loop-rest, else-rest-eq0-via-then-rest-eq0+else-not-may_miss, else-rest-eq0-via-else-rest-eq0}
 use Rattle.compare.proofs.Pair.keeps.Goals as goal
@@ -15,15 +13,6 @@ back c =
     let p = c.args.self.now in
     walked_back p.first p.m p.enough_for_first c.count_of-all.result c.loop-rest.rest c.count_of-all.ensures.power c.loop-rest.invariant.0
     (λ e. c.loop-rest-test.true (omega arith))
-
-pub loop-rest-init : goal.loop-rest-init
-loop-rest-init c = (c.requires, (λ k. k, λ k. k))
-
-pub overflow_add-before : goal.overflow_add-before
-overflow_add-before c = omega (arith, c.count_of-all.ensures.fits, c.count_of-all.ensures.power, (back (goal.at.overflow_add-before c).In-loop-rest).within)
-
-pub may_miss-requires : goal.may_miss-requires
-may_miss-requires c = let p = c.args.self.now in set_wider _ longest p.first p.short p.enough_for_first
 
 pub returns-then-not-may_miss : goal.returns-then-not-may_miss
 returns-then-not-may_miss c = (
