@@ -1,15 +1,12 @@
--- The number that the outcomes of a byte write, as the writer makes it: outcome by outcome, and half by half. Assumes nothing.
-use mathlib.Core.Path.{◌≡◌, sym, ap}
+-- The number that the outcomes of a byte write, as the writer makes it, outcome by outcome. Assumes nothing.
 use mathlib.Core.Bool.{Bool}
 use mathlib.Core.List.{List}
 use Prim.Native.Nat.{ℕ, zero, suc, ◌+◌, ◌*◌, ◌^◌, ◌<◌}
-use native.Mathlib.Nat.{add-zero}
-use native.Mathlib.Numerals.{add-one, towards_suc}
 use native.Mathlib.Omega.{arith}
 use lib.Pow.{pow_mono}
 use Rattle.patterns.specs.Outcome.{bit}
 use Rattle.patterns.proofs.Numbers.{bit_le}
-use Rattle.night_log.specs.Bytes.{outcome_at, byte_from, half_from}
+use Rattle.night_log.specs.Bytes.{outcome_at}
 
 -- the number that the n outcomes from outcome i on write, the oldest in the highest bit
 abbrev pub bits_from : List Bool → (i n : ℕ) → ℕ
@@ -24,12 +21,3 @@ module _ (p : List Bool) (i : ℕ) where
   -- with fewer than eight there is room for one more
   pub bits_room : (n : ℕ) → n < 8 → bits_from p i n < 128
   bits_room n h = omega (arith, bits_within n, pow_mono {i = n} {j = 7} (omega arith))
-
-  pub bits_more : (n : ℕ) → bits_from p i n * 2 + bit (outcome_at p (i + n)) ≡ bits_from p i (n + 1)
-  bits_more n = ap (bits_from p i) (sym (add-one n))
-
-  pub bits_eight : bits_from p i 8 ≡ byte_from p i
-  bits_eight = omega (arith, ap (λ z. bit (outcome_at p z)) (add-zero i))
-
-  pub halves : half_from p i * 16 + half_from p (i + 4) ≡ byte_from p i
-  halves = simp towards_suc (omega arith)

@@ -2,7 +2,7 @@
 use mathlib.Core.Path.{◌≡◌, sym, ◌∙◌, subst}
 use mathlib.Core.List.{List}
 use Prim.Native.Nat.{ℕ, ◌≤◌}
-use borrow.Author.Tests.{lt-ltb, le-ltb}
+use borrow.Author.Tests.{le-ltb}
 use lib.ListN.{length, length-map, get_or-map}
 use Rattle.std.specs.Prelude.{Ok, Err}
 use Rattle.std.proofs.Common.{rules}
@@ -11,7 +11,7 @@ use Rattle.layout.specs.Bytes.{byte_at}
 use Rattle.layout.specs.declared.Refused.{Refused}
 use Rattle.layout.specs.Refusal.{first}
 use Rattle.layout.specs.Refused.{row_of}
-use Rattle.layout.proofs.Rows.{refused_before, passed_before, first_here, first_skip}
+use Rattle.layout.proofs.Rows.{refused_before, passed_before, first_skip}
 use Rattle.patterns.specs.Outcome.{outcome, outcomes, outcome_rows}
 use Rattle.meaning.specs.Longest.{longest}
 use Rattle.sets.specs.Rows.{set_rows}
@@ -39,12 +39,6 @@ pub returns-in_err-set : goal.returns-in_err-set
 returns-in_err-set c =
     let p = err_from_is_err_and c.from_residual.result c.from_residual.ensures.1 in
     rw (p.1, p.2) (refused_by c.args.set.now c.args.pattern.now _ (refused_rows longest c.args.set.now c.read_set.result c.read_set.ensures _ c.in_err-set.was))
-
-pub returns-then-pattern-gt-MOST_JOBS : goal.returns-then-pattern-gt-MOST_JOBS
-returns-then-pattern-gt-MOST_JOBS c = record {
-  refusal = sym (set_passed (goal.at.returns-then-pattern-gt-MOST_JOBS c).In_ok-set ∙ first_here 26 0 _ (outcome_rows c.args.pattern.now 0) (lt-ltb _ _ c.if-pattern-gt-MOST_JOBS.true));
-  verdict = tt;
-}
 
 pub returns-in-Some : goal.returns-in-Some
 returns-in-Some c = record {

