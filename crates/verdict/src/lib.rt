@@ -16,7 +16,7 @@ use meaning::LimitSet;
 const MOST_JOBS: usize = 9223372036854775807;
 
 // Where a pattern is lost. `first` is the first job of the window that broke; it may lie before job 1.
-#[derive(Clone, Copy)]
+#[derive(Clone, Copy, Debug, PartialEq, Eq)]
 pub struct Loss {
     pub job: u64,
     pub limit: usize,
