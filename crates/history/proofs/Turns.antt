@@ -1,4 +1,4 @@
--- What a turn of `row_among` leaves: the run that it looked at is the row, or what is left has the row exactly when all outcomes have it, and one run less. Assumes nothing.
+-- What a turn of `Latest::has_row` leaves: the run that it looked at is the row, or what is left has the row exactly when all outcomes have it, and one run less. Assumes nothing.
 use mathlib.Core.Path.{◌≡◌, refl, sym, ap, ◌∙◌, subst}
 use mathlib.Core.Bool.{Bool, true, false, false≢true}
 use mathlib.Core.List.{◌++◌}
