@@ -8,6 +8,7 @@ fn main(rt: HostRuntime) {
     let mut work = [0u16; 8192];
     let mut table = [0u8; 8199];
     let mut text = [0u8; printing::LONGEST_TEXT];
+    // 0 is standard input
     let size = io::read_full(0, &mut input);
     let length = printing::print_input(&input, size, &mut work, &mut table, &mut text);
     let _ = rt.write_all(&text[..length]);

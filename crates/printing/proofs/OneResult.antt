@@ -1,37 +1,45 @@
 -- The promises of the printing allow one result. What is added to a text is an equation. Of the whole, what is tested before the work area is used decides, or the builder's one result and the one text of its table do. Assumes nothing.
 use mathlib.Core.Path.{◌≡◌, refl, sym, ap, ◌∙◌, subst}
+use mathlib.Core.Bool.{Bool, true, false}
 use mathlib.Core.List.{List, [], ◌∷◌}
 use Prim.Native.Nat.{ℕ}
-use Rattle.layout.specs.Refusal.{Row, Tested, passed, refused, first}
-use Rattle.layout.specs.Write.{room_row, length_when}
+use lib.Dec.{ltb}
+use lib.ListN.{length}
+use Rattle.std.specs.Prelude.{Result, Ok, Err}
+use Rattle.layout.specs.Refusal.{Row, row, Tested, passed, refused, first}
+use Rattle.layout.specs.declared.Refused.{Refused}
+use Rattle.layout.specs.declared.Refused.TheVariants.{Room}
+use Rattle.layout.specs.Refused.{says}
+use Rattle.layout.specs.Write.{room_row, length_of, length_when, buffer_when}
+use Rattle.layout.proofs.Write.{written_by}
 use Rattle.layout.proofs.Rows.{and_then, first_append, first_skip, passed_first, both_passed}
 use Rattle.machines.specs.Machine.{Machine}
 use Rattle.machines.specs.Canonical.{Canonical, OneTable}
 use Rattle.machines.proofs.Unique.{canonical_unique}
 use Rattle.meaning.specs.Sets.{KeptBy}
 use Rattle.sets.specs.Bytes.{set_of}
-use Rattle.table.specs.Bytes.{size_of}
-use Rattle.builder.specs.declared.BuildAnswer.{BuildAnswer}
-use Rattle.builder.specs.declared.BuildAnswer.TheVariants.{Built, Refused}
-use Rattle.builder.specs.Build.{early_rows, build_rows, says, length_of, WorkAfter, table_when, BuiltAs}
+use Rattle.table.specs.Bytes.{bytes_of, size_of}
+use Rattle.builder.specs.Build.{early_rows, build_rows, WorkAfter, BuiltAs}
 use Rattle.builder.proofs.OneResult.{built_one_result}
 use Rattle.printing.specs.Text.{text_when}
 use Rattle.printing.specs.Cut.{held, cut, Adds}
 use Rattle.printing.specs.Print.{input_row, print_early, print_tests, text_for, PrintedWith, PrintedAs}
 use Rattle.printing.proofs.Texts.{text_of_one_table}
 
--- what the builder answers by its tests
-abbrev answer_by : Tested → (size : ℕ) → BuildAnswer
-answer_by passed size = Built size
-answer_by (refused number at) size = Refused number at
+-- what the builder answers past 8, by whether the table is refused its room
+abbrev answer_by : Bool → (size : ℕ) → Result ℕ Refused
+answer_by true size = Err (Room size)
+answer_by false size = Ok size
 
-says_by : (t : Tested) (size : ℕ) → says (answer_by t size) ≡ t
-says_by passed size = refl
-says_by (refused number at) size = refl
+says_by : (h : Bool) (size : ℕ) → says (answer_by h size) ≡ first (row 9 h size ∷ [])
+unfolding first
+says_by true size = refl
+says_by false size = refl
 
-length_by : (t : Tested) (size : ℕ) → length_of (answer_by t size) ≡ length_when t size
-length_by passed size = refl
-length_by (refused number at) size = refl
+length_by : (h : Bool) (size : ℕ) → length_of (answer_by h size) ≡ length_when (first (row 9 h size ∷ [])) size
+unfolding first
+length_by true size = refl
+length_by false size = refl
 
 pub adds_one_result : (more out : List ℕ) (at : ℕ) (x y : List ℕ) (r t : ℕ) → Adds more out at x r → Adds more out at y t → (r ≡ t) × (x ≡ y)
 adds_one_result more out at x y r t f g = (f.place ∙ sym g.place, f.bytes ∙ sym g.bytes)
@@ -71,17 +79,18 @@ module _ (widest : ℕ) (input work table : List ℕ) where
       same_tests later = first_skip 1 0 _ later (passed_first (input_row input) (early_rows widest input work) e).0
 
       built_of : {work' table' out' : List ℕ} {r : ℕ} {m : Machine} → PrintedWith widest input work work' table table' out out' r m
-          → BuiltAs widest input work work' table table' (answer_by (print_tests widest input work table m) (size_of m.states))
+          → BuiltAs widest input work work' table table' (answer_by (ltb (length table) (size_of m.states)) (size_of m.states))
       built_of {work'} {table'} {out'} {r} {m} p =
-          let t = same_tests (build_rows widest input work table (size_of m.states)) in
-          let s = same_tests (early_rows widest input work) in (
+          let size = size_of m.states in
+          let short = ltb (length table) size in
+          let rows = build_rows widest input work table size in
+          let t = tests_by_early e m in (
             m,
             record {
               canonical = λ q. p.canonical e;
-              answer = says_by (print_tests widest input work table m) (size_of m.states) ∙ t;
-              returned = length_by (print_tests widest input work table m) (size_of m.states) ∙ ap (λ z. length_when z (size_of m.states)) t;
-              work_after = subst (λ z. WorkAfter widest z work work') s p.work_after;
-              table_after = p.table_after ∙ ap (λ z. table_when z m table) t;
+              written = written_by rows size (bytes_of m) table (first (room_row table size ∷ [])) table' (answer_by short size)
+                  (sym (same_tests rows) ∙ t) (says_by short size) (length_by short size) (p.table_after ∙ ap (λ z. buffer_when z size (bytes_of m) table) t);
+              work_after = subst (λ z. WorkAfter widest z work work') (same_tests (early_rows widest input work)) p.work_after;
             },
           )
 
@@ -89,7 +98,7 @@ module _ (widest : ℕ) (input work table : List ℕ) where
       lent_once : (e : Tested) → print_early widest input work ≡ e → (a ≡ b) × (c ≡ d)
       lent_once (refused number at) e =
           let w : (z : List ℕ) → WorkAfter widest (print_early widest input work) work z → z ≡ work = λ z h. subst (λ v. WorkAfter widest v work z) e h in
-          let k : (q : Machine) → table_when (print_tests widest input work table q) q table ≡ table = λ q. ap (λ z. table_when z q table) (tests_by_early e q) in
+          let k : (q : Machine) → buffer_when (print_tests widest input work table q) (size_of q.states) (bytes_of q) table ≡ table = λ q. ap (λ z. buffer_when z (size_of q.states) (bytes_of q) table) (tests_by_early e q) in
           (w a f.work_after ∙ sym (w b g.work_after), f.table_after ∙ k m ∙ sym (g.table_after ∙ k n))
       lent_once passed e = let (u, p, q) = built_one_result widest input work table a b c d _ _ (built_of e f) (built_of e g) in (p, q)
 

@@ -6,14 +6,14 @@ use Prim.Native.Nat.{ℕ, ◌≤◌}
 use native.Mathlib.Omega.{arith}
 use lib.ListN.{length, take}
 use Rattle.layout.specs.Refusal.{Row, passed, refused, first}
-use Rattle.layout.specs.Write.{room_row}
+use Rattle.layout.specs.Write.{room_row, buffer_when}
 use Rattle.layout.proofs.Rows.{Numbers, first_number}
 use Rattle.machines.specs.Machine.{Machine}
 use Rattle.machines.specs.Canonical.{Canonical}
 use Rattle.meaning.specs.Sets.{KeptBy}
 use Rattle.sets.specs.Bytes.{set_of}
-use Rattle.table.specs.Bytes.{size_of}
-use Rattle.builder.specs.Build.{early_rows, build_rows, Cleared, table_when}
+use Rattle.table.specs.Bytes.{bytes_of, size_of}
+use Rattle.builder.specs.Build.{early_rows, build_rows, Cleared}
 use Rattle.builder.proofs.Numbers.{EarlyNumber, BuildNumber, early_numbers, room_numbers, work_by_number}
 use Rattle.printing.specs.Longest.{printed_longest}
 use Rattle.printing.specs.Text.{refusal_text}
@@ -50,7 +50,7 @@ module _ (input work work' table table' out out' : List ℕ) (r : ℕ) (printed 
     print_refused_by = first_number BuildNumber (early ++ late) n v (room_numbers early table (size_of printed.0.states) (early_numbered input work)) rows_refused
 
     pub refused_print_leaves_table : table' ≡ table
-    refused_print_leaves_table = printed.1.table_after ∙ ap (λ z. table_when z printed.0 table) rows_refused
+    refused_print_leaves_table = printed.1.table_after ∙ ap (λ z. buffer_when z (size_of printed.0.states) (bytes_of printed.0) table) rows_refused
 
     pub refused_print_leaves_work : ((n ≡ 9 → ⊥) → work' ≡ work) × (n ≡ 9 → Cleared printed_longest work work')
     refused_print_leaves_work = work_by_number early table (size_of printed.0.states) (early_numbered input work) printed_longest work work' n v rows_refused printed.1.work_after

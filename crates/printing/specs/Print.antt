@@ -2,14 +2,15 @@
 -- The text is that of the set's own table.
 use Rattle.std.specs.Prelude.{◌≡◌, List, ◌∷◌, ℕ, ◌+◌, ◌*◌, ◌≤◌, ltb, length, take}
 use Rattle.layout.specs.Refusal.{Row, row, Tested, passed, first}
+use Rattle.layout.specs.Write.{buffer_when}
 use Rattle.machines.specs.Machine.{Machine}
 use Rattle.machines.specs.Canonical.{Canonical}
 use Rattle.meaning.specs.Sets.{KeptBy}
 use Rattle.sets.specs.Bytes.{set_of}
 use Rattle.sets.specs.Rows.{set_rows}
-use Rattle.table.specs.Bytes.{size_of}
+use Rattle.table.specs.Bytes.{bytes_of, size_of}
 use Rattle.classes.specs.Area.{area_size}
-use Rattle.builder.specs.Build.{early_rows, build_rows, WorkAfter, table_when}
+use Rattle.builder.specs.Build.{early_rows, build_rows, WorkAfter}
 use Rattle.printing.specs.Longest.{printed_longest, printed_states}
 use Rattle.printing.specs.Text.{text_when}
 use Rattle.printing.specs.Cut.{held, cut}
@@ -39,7 +40,7 @@ longest_text = 12 + 15 * printed_states
 pub record PrintedWith (widest : ℕ) (input work work' table table' out out' : List ℕ) (r : ℕ) (m : Machine) : Type 0 where
   pub canonical : print_early widest input work ≡ passed → Canonical m (KeptBy (set_of input))
   pub work_after : WorkAfter widest (print_early widest input work) work work'
-  pub table_after : table' ≡ table_when (print_tests widest input work table m) m table
+  pub table_after : table' ≡ buffer_when (print_tests widest input work table m) (size_of m.states) (bytes_of m) table
   pub returned : r ≡ held (text_for widest input work table m) out
   pub out_after : out' ≡ cut (text_for widest input work table m) out
 

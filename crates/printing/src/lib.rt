@@ -10,7 +10,7 @@ ghost use Rattle.std.specs.Prelude.{take};
 ghost use Rattle.printing.specs.Longest.{printed_longest};
 ghost use Rattle.printing.specs.Print.{PrintedAs, Lent, PrintedWhole};
 
-use builder::BuildAnswer;
+use layout::Refused;
 use put::Text;
 
 // The most bytes of an input that are looked at.
@@ -29,12 +29,12 @@ pub fn print_set(input: &[u8], work: &mut [u16], table: &mut [u8], out: &mut [u8
 {
     let mut text = Text::start(out);
     if MOST_BYTES < input.len() {
-        text.put_refusal(1, 0);
+        text.put_refusal(Refused::SetLength);
         return text.length();
     }
     match builder::build_within(input, LONGEST_WINDOW, work, table) {
-        BuildAnswer::Refused { number, at } => text.put_refusal(number, at),
-        BuildAnswer::Built(size) => text.put_table(&table[..size]),
+        Ok(size) => text.put_table(&table[..size]),
+        Err(refused) => text.put_refusal(refused),
     }
     text.length()
 }

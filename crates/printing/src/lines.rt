@@ -2,24 +2,26 @@
 // Each ends with one newline.
 ghost use Rattle.std.specs.Prelude.{◌≡◌, true, false};
 ghost use Rattle.layout.specs.Refusal.{passed, first};
+ghost use Rattle.layout.specs.Refused.{number_of, beside};
 ghost use Rattle.table.specs.Bytes.{state_count, machine_of};
 ghost use Rattle.table.specs.Rows.{table_rows, look_rows};
-ghost use Rattle.table.specs.Check.{move_by};
+ghost use Rattle.table.specs.Check.{reached, move_by};
 ghost use Rattle.printing.specs.Text.{move_text, line_of, state_line, state_lines, head_line, refusal_text, text_when};
 ghost use Rattle.printing.specs.Put.{Puts};
 
 use crate::put::Text;
-use table::{Looked, Moves, TableAnswer};
+use layout::Refused;
+use table::Moves;
 
 impl<'a> Text<'a> {
     // As `refused 3 at 0`.
-    pub fn put_refusal(&mut self, number: u8, value: usize)
-        ensures { Puts (refusal_text number value) self.old self.new }
+    pub fn put_refusal(&mut self, refused: Refused)
+        ensures { Puts (refusal_text (number_of refused) (beside refused)) self.old self.new }
     {
         self.put_text(b"refused ");
-        self.put_number(number as usize);
+        self.put_number(refused.number() as usize);
         self.put_text(b" at ");
-        self.put_number(value);
+        self.put_number(refused.at());
         self.put_text(b"\n");
     }
 
@@ -33,13 +35,12 @@ impl<'a> Text<'a> {
     }
 
     // Where a miss leads, or `-` where it isn't allowed.
-    fn put_miss(&mut self, moves: Moves)
-        ensures { Puts (move_text (move_by moves false)) self.old self.new }
+    fn put_miss(&mut self, miss: Option<u16>)
+        ensures { Puts (move_text (reached miss)) self.old self.new }
     {
-        if moves.may_miss {
-            self.put_number(moves.miss as usize);
-        } else {
-            self.put_text(b"-");
+        match miss {
+            Some(state) => self.put_number(state as usize),
+            None => self.put_text(b"-"),
         }
     }
 
@@ -49,7 +50,7 @@ impl<'a> Text<'a> {
     {
         self.put_number(state as usize);
         self.put_text(b" ");
-        self.put_miss(moves);
+        self.put_miss(moves.miss);
         self.put_text(b" ");
         self.put_number(moves.hit as usize);
         self.put_text(b"\n");
@@ -59,7 +60,7 @@ impl<'a> Text<'a> {
         requires { first (look_rows bytes.now state) ≡ passed }
         ensures { Puts (state_line (machine_of bytes.now) state) self.old self.new }
     {
-        if let Looked::Moves(moves) = table::look(bytes, state) {
+        if let Ok(moves) = table::look(bytes, state) {
             self.put_moves(state, moves);
         }
     }
@@ -78,11 +79,11 @@ impl<'a> Text<'a> {
         ensures { Puts (text_when (first (table_rows bytes.now)) (machine_of bytes.now)) self.old self.new }
     {
         match table::check_table(bytes) {
-            TableAnswer::Refused { number, at } => self.put_refusal(number, at),
-            TableAnswer::States(n) => {
+            Ok(n) => {
                 self.put_head(n);
                 self.put_states(bytes, n);
             }
+            Err(refused) => self.put_refusal(refused),
         }
     }
 }

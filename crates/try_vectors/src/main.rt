@@ -68,6 +68,7 @@ fn input() -> [u8; 131072]
 
 fn main(rt: HostRuntime) {
     let mut lines = input();
+    // 0 is standard input
     let n = io::read_full(0, &mut lines);
     run(&rt, &lines[..n]);
 }

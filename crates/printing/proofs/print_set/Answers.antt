@@ -7,7 +7,7 @@ use Rattle.printing.specs.Longest.{printed_longest}
 use Rattle.printing.proofs.Adding.{holds_text}
 use Rattle.printing.proofs.Answers.{printed_long, printed_refused, printed_built, built_room}
 use Rattle.printing.proofs.print_set.Goals as goal
-use Rattle.printing.proofs.print_set.Goals.{in-Refused, in-Built}
+use Rattle.printing.proofs.print_set.Goals.{in-Err, in-Ok}
 
 pub returns-then-input-gt-MOST_BYTES : goal.returns-then-input-gt-MOST_BYTES
 returns-then-input-gt-MOST_BYTES c =
@@ -15,16 +15,16 @@ returns-then-input-gt-MOST_BYTES c =
 
 pub slice_bounds-put_table-end : goal.slice_bounds-put_table-end
 slice_bounds-put_table-end c =
-    built_room printed_longest c.args.input.now c.args.work.now _ c.args.table.now _ refl c.in-Built.ensures
+    built_room printed_longest c.args.input.now c.args.work.now _ c.args.table.now _ refl c.in-Ok.ensures
 
-pub slice_bounds-put_table-end-in-Built : goal.slice_bounds-put_table-end-in-Built
-slice_bounds-put_table-end-in-Built c =
-    sym (length-take-le _ _ (built_room printed_longest c.args.input.now c.args.work.now _ c.args.table.now _ refl c.in-Built.ensures))
+pub slice_bounds-put_table-end-in-Ok : goal.slice_bounds-put_table-end-in-Ok
+slice_bounds-put_table-end-in-Ok c =
+    sym (length-take-le _ _ (built_room printed_longest c.args.input.now c.args.work.now _ c.args.table.now _ refl c.in-Ok.ensures))
 
 pub returns : goal.returns
 returns c =
     let start = c.start-text.ensures in
     elim c.match-build_within.branch [
-      | in-Refused w ↦ printed_refused printed_longest c.args.input.now c.args.work.now c.args.table.now c.args.out.now _ _ _ _ c.if-input-gt-MOST_BYTES.false refl w.in-Refused.ensures (search (rules, holds_text _ _ _ _ start.unchanged start.place w.put_refusal-in-Refused.ensures))
-      | in-Built w ↦ printed_built printed_longest c.args.input.now c.args.work.now c.args.table.now c.args.out.now _ _ _ _ c.if-input-gt-MOST_BYTES.false (omega arith) refl w.in-Built.ensures (search (rules, holds_text _ _ _ _ start.unchanged start.place w.put_table.ensures))
+      | in-Err w ↦ printed_refused printed_longest c.args.input.now c.args.work.now c.args.table.now c.args.out.now _ _ _ _ c.if-input-gt-MOST_BYTES.false refl w.in-Err.ensures (search (rules, holds_text _ _ _ _ start.unchanged start.place w.put_refusal-in-Err.ensures))
+      | in-Ok w ↦ printed_built printed_longest c.args.input.now c.args.work.now c.args.table.now c.args.out.now _ _ _ _ c.if-input-gt-MOST_BYTES.false (omega arith) refl w.in-Ok.ensures (search (rules, holds_text _ _ _ _ start.unchanged start.place w.put_table.ensures))
     ]
