@@ -1,5 +1,5 @@
 -- Any two results that the promise of an exported function allows are equal, and what was lent is then the same: by the library's own theorems, since a record is the flat form of an answer. Assumes nothing.
-use mathlib.Core.Path.{◌≡◌, sym, ap, ◌∙◌}
+use mathlib.Core.Path.{◌≡◌, sym, ap, ap₂, ◌∙◌}
 use mathlib.Core.List.{List}
 use Prim.Native.Nat.{ℕ}
 use Rattle.meaning.specs.Longest.{longest}
@@ -52,6 +52,13 @@ one_flat_lent promise flat one z z' r t (a, p, e) (b, q, f) =
     let (same, lent) = one a b z z' p q in
     (e ∙ ap flat same ∙ sym f, lent)
 
+-- and of an answer with what comes back beside it
+one_flat_beside : {A B R : Type 0} (promise : A → B → Type 0) (flat : (A × B) → R) → ((a a' : A) (b b' : B) → promise a b → promise a' b' → (a ≡ a') × (b ≡ b'))
+    → (r t : R) → FlatAnswer (λ z. promise z.0 z.1) flat r → FlatAnswer (λ z. promise z.0 z.1) flat t → r ≡ t
+one_flat_beside promise flat one r t (x, p, e) (y, q, f) =
+    let (same, beside) = one x.0 y.0 x.1 y.1 p q in
+    e ∙ ap₂ (λ a b. flat (a, b)) same beside ∙ sym f
+
 pub floe_read_set_one_result : (b : List ℕ) (r t : FloeSetRead) → FlatAnswer (ReadAs longest b) flat_set r → FlatAnswer (ReadAs longest b) flat_set t → r ≡ t
 floe_read_set_one_result b = one_flat (ReadAs longest b) flat_set (read_one_result longest b)
 
@@ -77,11 +84,11 @@ floe_check_table_one_result b = one_flat (CheckedAs b) flat_checked (checked_one
 pub floe_guard_start_one_result : (b : List ℕ) (r t : FloeStarted) → FlatAnswer (StartedAs b) flat_started r → FlatAnswer (StartedAs b) flat_started t → r ≡ t
 floe_guard_start_one_result b = one_flat (StartedAs b) flat_started (start_one_result b)
 
-pub floe_guard_ask_one_result : (b : List ℕ) (g : Guard) (r t : FloeAsked) → FlatAnswer (AskedAs b g) flat_asked r → FlatAnswer (AskedAs b g) flat_asked t → r ≡ t
-floe_guard_ask_one_result b g = one_flat (AskedAs b g) flat_asked (ask_one_result b g)
+pub floe_guard_ask_one_result : (b : List ℕ) (g : Guard) (r t : FloeAsked) → FlatAnswer (λ a. AskedAs b g a.0 × (a.1 ≡ g)) flat_asked r → FlatAnswer (λ a. AskedAs b g a.0 × (a.1 ≡ g)) flat_asked t → r ≡ t
+floe_guard_ask_one_result b g = one_flat_beside (λ a h. AskedAs b g a × (h ≡ g)) flat_asked (λ a a' h h' (p, e) (q, f). (ask_one_result b g a a' p q, e ∙ sym f))
 
-pub floe_guard_tell_one_result : (b : List ℕ) (g : Guard) (byte : ℕ) (r t : FloeTold) → FlatAnswer (ToldAs b g byte) flat_told r → FlatAnswer (ToldAs b g byte) flat_told t → r ≡ t
-floe_guard_tell_one_result b g byte = one_flat (ToldAs b g byte) flat_told (tell_one_result b g byte)
+pub floe_guard_tell_one_result : (b : List ℕ) (g : Guard) (byte : ℕ) (r t : FloeTold) → FlatAnswer (λ a. ToldAs b g byte a.0 a.1) flat_told r → FlatAnswer (λ a. ToldAs b g byte a.0 a.1) flat_told t → r ≡ t
+floe_guard_tell_one_result b g byte = one_flat_beside (ToldAs b g byte) flat_told (tell_one_result b g byte)
 
 module _ (row : List Guard) (job : ℕ) (b : List ℕ) where
   pub floe_row_start_one_result : (z z' : List Guard) (r t : FloeDone) → FlatAnswer (λ a. RowStartedAs row job b a z) flat_start r → FlatAnswer (λ a. RowStartedAs row job b a z') flat_start t → (r ≡ t) × (z ≡ z')
@@ -105,8 +112,8 @@ floe_log_write_one_result p out = one_flat_lent (λ a o. LogWrittenAs p out o a)
 pub floe_log_open_one_result : (b : List ℕ) (r t : FloeLogOpened) → FlatAnswer (OpenedAs b) flat_opened r → FlatAnswer (OpenedAs b) flat_opened t → r ≡ t
 floe_log_open_one_result b = one_flat (OpenedAs b) flat_opened (opened_one_result b)
 
-pub floe_log_next_one_result : (b : List ℕ) (place : ℕ) (r t : FloeLogRead) → FlatAnswer (LogReadAs b place) flat_log_read r → FlatAnswer (LogReadAs b place) flat_log_read t → r ≡ t
-floe_log_next_one_result b place = one_flat (LogReadAs b place) flat_log_read (log_read_one_result b place)
+pub floe_log_next_one_result : (b : List ℕ) (place : ℕ) (r t : FloeLogRead) → FlatAnswer (λ a. LogReadAs b place a.0 a.1) flat_log_read r → FlatAnswer (λ a. LogReadAs b place a.0 a.1) flat_log_read t → r ≡ t
+floe_log_next_one_result b place = one_flat_beside (LogReadAs b place) flat_log_read (log_read_one_result b place)
 
 pub floe_log_judge_one_result : (b l : List ℕ) (r t : FloeVerdict) → FlatAnswer (LogJudgedAs longest b l) flat_verdict r → FlatAnswer (LogJudgedAs longest b l) flat_verdict t → r ≡ t
 floe_log_judge_one_result b l = one_flat (LogJudgedAs longest b l) flat_verdict (log_judge_one_result longest b l)

@@ -19,19 +19,11 @@ pub fn floe_guard_new() -> Guard
 pub fn floe_carry_write(guard: Guard, set: &[u8], out: &mut [u8]) -> FloeWritten
     ensures { FlatAnswer (RecordWrittenAs longest carried guard set.now out.old out.new) flat_written result }
 {
-    flat::written(carry::write_record(guard, set, out))
+    carry::write_record(guard, set, out).into()
 }
 
 pub fn floe_carry_read(bytes: &[u8], table: &[u8]) -> FloeStarted
     ensures { FlatAnswer (ReadBackAs longest carried bytes.now table.now) flat_started result }
 {
-    let back = carry::read_record(bytes, table);
-    let answer = back.answer;
-    let carried = back.guard;
-    let said = flat::started(answer);
-    FloeStarted {
-        refused: said.refused,
-        at: said.at,
-        guard: carried,
-    }
+    carry::read_record(bytes, table).into()
 }

@@ -2,6 +2,7 @@
 // The records and what they say are `flat`'s. `floelinnet_c` exports each function for C.
 #![tactic(auto)]
 
+ghost use Rattle.std.specs.Prelude.{◌≡◌};
 ghost use Rattle.meaning.specs.Longest.{longest};
 ghost use Rattle.sets.specs.Read.{ReadAs};
 ghost use Rattle.sets.specs.Write.{WrittenAs};
@@ -30,59 +31,49 @@ pub use row::{floe_row_ask, floe_row_start, floe_row_tell};
 pub fn floe_read_set(set: &[u8]) -> FloeSetRead
     ensures { FlatAnswer (ReadAs longest set.now) flat_set result }
 {
-    flat::set_read(sets::read_set(set))
+    sets::read_set(set).into()
 }
 
 pub fn floe_write_set(set: LimitSet, bytes: &mut [u8]) -> FloeWritten
     ensures { FlatAnswer (WrittenAs longest set bytes.old bytes.new) flat_written result }
 {
-    flat::written(sets::write_set(set, bytes))
+    sets::write_set(set, bytes).into()
 }
 
 pub fn floe_judge(set: &[u8], pattern: &[u8]) -> FloeVerdict
     ensures { FlatAnswer (JudgedAs longest set.now pattern.now) flat_verdict result }
 {
-    flat::judged(verdict::judge(set, pattern))
+    verdict::judge(set, pattern).into()
 }
 
 pub fn floe_compare(first: &[u8], second: &[u8]) -> FloeComparison
     ensures { FlatAnswer (ComparedAs longest first.now second.now) flat_comparison result }
 {
-    flat::compared(compare::compare(first, second))
+    compare::compare(first, second).into()
 }
 
 pub fn floe_build(set: &[u8], work: &mut [u16], table: &mut [u8]) -> FloeBuilt
     ensures { FlatAnswer (BuiltAs longest set.now work.old work.new table.old table.new) flat_built result }
 {
-    flat::built(builder::build(set, work, table))
+    builder::build(set, work, table).into()
 }
 
 pub fn floe_check_table(table: &[u8]) -> FloeChecked
     ensures { FlatAnswer (CheckedAs table.now) flat_checked result }
 {
-    flat::checked(table::check_table(table))
+    table::check_table(table).into()
 }
 
 pub fn floe_guard_start(table: &[u8]) -> FloeStarted
     ensures { FlatAnswer (StartedAs table.now) flat_started result }
 {
-    let started = Guard::start(table);
-    let answer = started.answer;
-    let fresh = started.guard;
-    let said = flat::started(answer);
-    FloeStarted {
-        refused: said.refused,
-        at: said.at,
-        guard: fresh,
-    }
+    Guard::start(table).into()
 }
 
 pub fn floe_guard_ask(guard: Guard, table: &[u8]) -> FloeAsked
-    ensures { FlatAnswer (AskedAs table.now guard) flat_asked result }
+    ensures { FlatAnswer (λ a. AskedAs table.now guard a.0 × (a.1 ≡ guard)) flat_asked result }
 {
-    let asked = guard.ask(table);
-    let answer = asked.answer;
-    let said = flat::asked(answer);
+    let answer = guard.ask(table);
     // Asking changes nothing. A copy of the whole record would be read across what the caller has just stored.
     let outcomes = guard.outcomes;
     let same = Guard {
@@ -91,24 +82,13 @@ pub fn floe_guard_ask(guard: Guard, table: &[u8]) -> FloeAsked
         outcomes,
         count: guard.count,
     };
-    FloeAsked {
-        refused: said.refused,
-        at: said.at,
-        answer: said.answer,
-        guard: same,
-    }
+    (answer, same).into()
 }
 
 pub fn floe_guard_tell(guard: Guard, table: &[u8], outcome: u8) -> FloeTold
-    ensures { FlatAnswer (ToldAs table.now guard outcome) flat_told result }
+    ensures { FlatAnswer (λ a. ToldAs table.now guard outcome a.0 a.1) flat_told result }
 {
-    let told = guard.tell(table, outcome);
-    let answer = told.answer;
-    let after = told.guard;
-    let said = flat::told(answer);
-    FloeTold {
-        refused: said.refused,
-        at: said.at,
-        guard: after,
-    }
+    let mut after = guard;
+    let answer = after.tell(table, outcome);
+    (answer, after).into()
 }

@@ -10,25 +10,25 @@ use flat::{FloeLogOpened, FloeLogRead, FloeVerdict, FloeWritten};
 pub fn floe_log_write(pattern: &[u8], log: &mut [u8]) -> FloeWritten
     ensures { FlatAnswer (LogWrittenAs pattern.now log.old log.new) flat_written result }
 {
-    flat::written(night_log::write_log(pattern, log))
+    night_log::write_log(pattern, log).into()
 }
 
 pub fn floe_log_open(log: &[u8]) -> FloeLogOpened
     ensures { FlatAnswer (OpenedAs log.now) flat_opened result }
 {
-    flat::opened(night_log::open_log(log))
+    night_log::open_log(log).into()
 }
 
 pub fn floe_log_next(place: u64, log: &[u8]) -> FloeLogRead
-    ensures { FlatAnswer (ReadAs log.now place) flat_log_read result }
+    ensures { FlatAnswer (λ a. ReadAs log.now place a.0 a.1) flat_log_read result }
 {
-    let read = night_log::read_log(log, place as usize);
-    let answer = read.answer;
-    flat::read(answer, read.place as u64)
+    let mut at = place as usize;
+    let outcome = night_log::read_log(log, &mut at);
+    (outcome, at as u64).into()
 }
 
 pub fn floe_log_judge(set: &[u8], log: &[u8]) -> FloeVerdict
     ensures { FlatAnswer (LogJudgedAs longest set.now log.now) flat_verdict result }
 {
-    flat::judged(night_log::judge_log(set, log))
+    night_log::judge_log(set, log).into()
 }

@@ -8,17 +8,17 @@ use guard::Guard;
 pub fn floe_row_start(row: &mut [Guard], job: usize, table: &[u8]) -> FloeDone
     ensures { FlatAnswer (λ a. RowStartedAs row.old job table.now a row.new) flat_start result }
 {
-    flat::started(guard::row::start(row, job, table))
+    guard::row::start(row, job, table).into()
 }
 
 pub fn floe_row_ask(row: &[Guard], job: usize, table: &[u8]) -> FloeRowAsked
     ensures { FlatAnswer (RowAskedAs row.now job table.now) flat_ask result }
 {
-    flat::asked(guard::row::ask(row, job, table))
+    guard::row::ask(row, job, table).into()
 }
 
 pub fn floe_row_tell(row: &mut [Guard], job: usize, table: &[u8], outcome: u8) -> FloeDone
     ensures { FlatAnswer (λ a. RowToldAs row.old job table.now outcome a row.new) flat_tell result }
 {
-    flat::told(guard::row::tell(row, job, table, outcome))
+    guard::row::tell(row, job, table, outcome).into()
 }

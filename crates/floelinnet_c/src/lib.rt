@@ -1,6 +1,7 @@
 // What C calls: each function of `floelinnet` under its own name and with its clauses. include/floelinnet.h declares them.
 #![tactic(auto)]
 
+ghost use Rattle.std.specs.Prelude.{◌≡◌};
 ghost use Rattle.meaning.specs.Longest.{longest};
 ghost use Rattle.sets.specs.Read.{ReadAs};
 ghost use Rattle.sets.specs.Write.{WrittenAs};
@@ -73,14 +74,14 @@ pub extern "C" fn floe_guard_start(table: &[u8]) -> FloeStarted
 
 #[unsafe(no_mangle)]
 pub extern "C" fn floe_guard_ask(guard: Guard, table: &[u8]) -> FloeAsked
-    ensures { FlatAnswer (AskedAs table.now guard) flat_asked result }
+    ensures { FlatAnswer (λ a. AskedAs table.now guard a.0 × (a.1 ≡ guard)) flat_asked result }
 {
     floelinnet::floe_guard_ask(guard, table)
 }
 
 #[unsafe(no_mangle)]
 pub extern "C" fn floe_guard_tell(guard: Guard, table: &[u8], outcome: u8) -> FloeTold
-    ensures { FlatAnswer (ToldAs table.now guard outcome) flat_told result }
+    ensures { FlatAnswer (λ a. ToldAs table.now guard outcome a.0 a.1) flat_told result }
 {
     floelinnet::floe_guard_tell(guard, table, outcome)
 }

@@ -23,7 +23,7 @@ pub extern "C" fn floe_log_open(log: &[u8]) -> FloeLogOpened
 
 #[unsafe(no_mangle)]
 pub extern "C" fn floe_log_next(place: u64, log: &[u8]) -> FloeLogRead
-    ensures { FlatAnswer (ReadAs log.now place) flat_log_read result }
+    ensures { FlatAnswer (λ a. ReadAs log.now place a.0 a.1) flat_log_read result }
 {
     floelinnet::floe_log_next(place, log)
 }
