@@ -7,22 +7,22 @@ pub(crate) fn print(rt: &impl Print, words: &str) {
     let _ = print!(rt; "{words}");
 }
 
-pub(crate) fn print_bytes(rt: &impl Print, bytes: &[u8]) {
-    if bytes.is_empty() {
+// Each value in so many hexadecimal digits.
+fn print_values(rt: &impl Print, values: &[u8], digits: usize) {
+    if values.is_empty() {
         print(rt, "-");
     }
-    for byte in bytes {
-        let _ = print!(rt; "{byte:02X}");
+    for value in values {
+        let _ = print!(rt; "{value:0digits$X}");
     }
 }
 
+pub(crate) fn print_bytes(rt: &impl Print, bytes: &[u8]) {
+    print_values(rt, bytes, 2);
+}
+
 pub(crate) fn print_outcomes(rt: &impl Print, outcomes: &[u8]) {
-    if outcomes.is_empty() {
-        print(rt, "-");
-    }
-    for outcome in outcomes {
-        let _ = print!(rt; "{outcome:X}");
-    }
+    print_values(rt, outcomes, 1);
 }
 
 // As `: 0304`.
