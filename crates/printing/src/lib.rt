@@ -40,7 +40,7 @@ pub fn print_set(input: &[u8], work: &mut [u16], table: &mut [u8], out: &mut [u8
 }
 
 // The same for the program, which reads `size` bytes, at most 65, and lends enough of everything: no text is cut, and
-// no set is refused by 8 or 9.
+// no set is refused by 8 or 9. The array comes whole beside `size`, since what is required says how long it is.
 pub fn print_input(
     input: &[u8],
     size: usize,

@@ -1,4 +1,5 @@
 // Text put into a lent buffer, one piece after another; what goes past the buffer's end is cut off.
+// The pieces have methods of their own, since `write!` promises nothing of what it writes.
 ghost use Rattle.printing.specs.Text.{decimal};
 ghost use Rattle.printing.specs.Put.{Puts};
 ghost use Rattle.std.specs.Prelude.{◌≡◌, [], ◌∷◌};
