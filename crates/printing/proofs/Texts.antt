@@ -1,7 +1,7 @@
 -- The lines of a table: one more state is one more line, machines with one table have one text, and what the tests say decides the text. Assumes nothing.
 use mathlib.Core.Path.{◌≡◌, refl, sym, ap, ap₂, ◌∙◌}
 use mathlib.Core.Bool.{Bool, true, false}
-use mathlib.Core.List.{List, [], ◌++◌, append_assoc, append-nil}
+use mathlib.Core.List.{[], ◌++◌, append_assoc, append-nil}
 use Prim.Native.Nat.{ℕ, zero, suc, ◌+◌, ◌<◌}
 use native.Mathlib.Nat.{add-zero}
 use native.Mathlib.Numerals.{add-one}
@@ -9,10 +9,6 @@ use native.Mathlib.Omega.{arith}
 use Rattle.layout.specs.Refusal.{Tested, passed}
 use Rattle.machines.specs.Machine.{Machine}
 use Rattle.machines.specs.Canonical.{OneTable}
-use Rattle.table.specs.declared.Moves as moves
-use Rattle.table.specs.Bytes.{machine_of}
-use Rattle.table.specs.Check.{moves_of, move_by}
-use Rattle.table.proofs.Answers.{moves_are_next}
 use Rattle.printing.specs.Text.{line_of, state_line, state_lines, head_line, table_text, text_when}
 
 module _ (m : Machine) where
@@ -35,12 +31,6 @@ module _ (m : Machine) where
 
   pub passed_text : (t : Tested) (n : ℕ) → t ≡ passed → n ≡ m.states → head_line n ++ state_lines m 0 n ≡ text_when t m
   passed_text t n e l = ap (λ k. head_line k ++ state_lines m 0 k) l ∙ sym (ap (λ z. text_when z m) e)
-
--- what an entry says is where the state's outcomes lead
-pub line_of_moves : (b : List ℕ) (s : ℕ) (k : moves.Moves) → k ≡ moves_of b s → line_of s (move_by k false) (move_by k true) ≡ state_line (machine_of b) s
-line_of_moves b s k e =
-    ap (λ z. line_of s (move_by z false) (move_by z true)) e
-    ∙ ap₂ (line_of s) (moves_are_next b s false) (moves_are_next b s true)
 
 lines_alike : (m n : Machine) (s k : ℕ) → ((j : ℕ) (o : Bool) → j < s + k → m.next j o ≡ n.next j o) → state_lines m s k ≡ state_lines n s k
 unfolding state_lines
