@@ -25,13 +25,21 @@ pub struct Loss {
 
 // What every judge does at each outcome: a hit keeps, and a miss is looked at. The history that is left, or the limit that blocks the miss.
 // That the set is allowed stays a clause of each function here: they are public, and take a set as it lies in memory.
-#[inline] // so that a hit makes no call in the loop over the outcomes
 pub fn take_turn(set: LimitSet, history: u16, hit: bool) -> Result<u16, usize>
     requires { SetAllowed longest set × (history < 2 ^ (longest - 1)) }
     ensures { Turned set history hit result }
 {
+    turn(&set, history, hit)
+}
+
+// The same where the set is lent, so that no hit copies it or makes a call.
+#[inline]
+fn turn(set: &LimitSet, history: u16, hit: bool) -> Result<u16, usize>
+    requires { SetAllowed longest set.now × (history < 2 ^ (longest - 1)) }
+    ensures { Turned set.now history hit result }
+{
     if !hit {
-        if let Some(limit) = history::blocking_limit(set, history) {
+        if let Some(limit) = history::blocking_limit(*set, history) {
             return Err(limit);
         }
     }
@@ -62,7 +70,6 @@ pub fn lost_by(set: LimitSet, history: u16, before: usize, limit: usize) -> Loss
 }
 
 // One pass over so many outcomes, each asked for in its turn: kept, or where they are lost.
-#[inline(never)] // so that the set is copied at no outcome
 pub fn judge_each<F: Fn(usize) -> bool>(set: LimitSet, count: usize, outcome: F) -> Option<Loss>
     requires allowed { SetAllowed longest set }
     requires jobs { count ≤ most_jobs }
@@ -71,7 +78,7 @@ pub fn judge_each<F: Fn(usize) -> bool>(set: LimitSet, count: usize, outcome: F)
 {
     let mut history = history::ALL_HITS;
     for i in 0..count {
-        match take_turn(set, history, outcome(i)) {
+        match turn(&set, history, outcome(i)) {
             Ok(next) => history = next,
             Err(limit) => return Some(lost_by(set, history, i, limit)),
         }

@@ -1,4 +1,4 @@
--- `verdict::take_turn` meets its contract: a hit keeps, and a miss goes by the limit that blocks it. Assumes nothing.
+-- `verdict::turn` meets its contract: a hit keeps, and a miss goes by the limit that blocks it. Assumes nothing.
 use mathlib.Core.Path.{◌≡◌, refl, sym, ap, ◌∙◌, subst}
 use mathlib.Core.Bool.{true, false}
 use Prim.Native.Nat.{◌-◌}
@@ -7,8 +7,8 @@ use Rattle.meaning.specs.Longest.{longest}
 use Rattle.history.specs.History.{pushed}
 use Rattle.history.proofs.Shifted.{shifted_pushed}
 use Rattle.verdict.specs.Turn.{Turned}
-use Rattle.verdict.proofs.take_turn.Goals as goal
-use Rattle.verdict.proofs.take_turn.Goals.{then-not-hit+in_default, else-not-hit}
+use Rattle.verdict.proofs.turn.Goals as goal
+use Rattle.verdict.proofs.turn.Goals.{then-not-hit+in_default, else-not-hit}
 
 pub returns : goal.returns
 returns c =
@@ -19,10 +19,10 @@ returns c =
     elim c.if-not-hit.branch [
       | then-not-hit+in_default w ↦
           let miss : s.hit ≡ false = w.if-not-hit.true in
-          let t : Turned s.set h false (Ok r) = (w.in_default.ensures, left ∙ ap (pushed (longest - 1) h) miss) in
-          subst (λ o. Turned s.set h o (Ok r)) (sym miss) t
+          let t : Turned s.set.now h false (Ok r) = (w.in_default.ensures, left ∙ ap (pushed (longest - 1) h) miss) in
+          subst (λ o. Turned s.set.now h o (Ok r)) (sym miss) t
       | else-not-hit w ↦
           let hit : s.hit ≡ true = w.if-not-hit.false in
-          let t : Turned s.set h true (Ok r) = left ∙ ap (pushed (longest - 1) h) hit in
-          subst (λ o. Turned s.set h o (Ok r)) (sym hit) t
+          let t : Turned s.set.now h true (Ok r) = left ∙ ap (pushed (longest - 1) h) hit in
+          subst (λ o. Turned s.set.now h o (Ok r)) (sym hit) t
     ]
