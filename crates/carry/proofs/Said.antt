@@ -6,18 +6,11 @@ use Rattle.std.specs.Prelude.{⊤, Result, Ok, Err}
 use Rattle.std.specs.Result.{IsErrAnd, is_err}
 use Rattle.std.proofs.lemmas.Result.{err_from_is_err_and}
 use Rattle.layout.specs.declared.HeadFault.{HeadFault}
-use Rattle.layout.specs.declared.HeadFault.TheVariants.{Length, Version}
 use Rattle.layout.specs.declared.Refused.{Refused}
-use Rattle.layout.specs.Refusal.{passed, refused}
+use Rattle.layout.specs.Refusal.{passed}
 use Rattle.layout.specs.Refused.{says}
 use Rattle.layout.specs.Head.{head_says}
 use Rattle.layout.proofs.Rows.{passed_not_refused}
-
--- a head of which both faults have one number
-pub head_fault : (number : ℕ) (r : Result ⊤ HeadFault) → true ≡ is_err r → head_says number number r ≡ refused number 0
-head_fault number (Ok x) e = absurd (true≢false e)
-head_fault number (Err Length) e = refl
-head_fault number (Err Version) e = refl
 
 pub no_head_fault : (wrong other : ℕ) (r : Result ⊤ HeadFault) → false ≡ is_err r → head_says wrong other r ≡ passed
 no_head_fault wrong other (Ok x) e = refl

@@ -1,6 +1,6 @@
 -- RULES, Bytes of a carry-over record: "the length field", "the version, 2", "the bytes of the set, its own head and all", "the outcomes that the guard holds, one byte each, the oldest first", "how many outcomes it was told", "1 if it is lost, else 0". "A record of version 1 differs in its version and in that it has 11 outcomes."
 -- The version v and how many outcomes there are, h, are variables wherever bytes are laid out. "That a record holds 15 outcomes isn't a number of its own: it is one less than the longest window."
-use Rattle.std.specs.Prelude.{Bool, true, cond, List, [], ◌∷◌, ◌++◌, map, ℕ, ◌+◌, ◌-◌, eqb, length, take, drop, replicate}
+use Rattle.std.specs.Prelude.{◌≡◌, Bool, true, cond, List, [], ◌∷◌, ◌++◌, map, ℕ, ◌+◌, ◌-◌, ◌≤◌, eqb, length, take, drop, replicate}
 use Rattle.layout.specs.Bytes.{byte_at, four_bytes, eight_at, eight_bytes, version}
 use Rattle.patterns.specs.Outcome.{bit, outcomes}
 use Rattle.meaning.specs.Longest.{longest}
@@ -56,6 +56,11 @@ record_of v h set g = head_bytes v h set ++ tail_bytes g
 -- "The set's bytes are all that lie between the version and the outcomes."
 abbrev pub set_in : ℕ → List ℕ → List ℕ
 set_in h r = take (length r - around_set h) (drop 5 r)
+
+-- where the outcomes begin: past the head, and as far from the end as what stands from there on is long
+pub record Begins (h : ℕ) (r : List ℕ) (end : ℕ) : Type 0 where
+  pub past_head : 5 ≤ end
+  pub before_end : end + tail_size h ≡ length r
 
 abbrev pub outcome_bytes : ℕ → List ℕ → List ℕ
 outcome_bytes h r = take h (drop (length r - tail_size h) r)

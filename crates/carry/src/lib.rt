@@ -3,12 +3,13 @@
 // Records of the version before, with fewer outcomes, are still read.
 #![tactic(auto)]
 
-ghost use Rattle.std.specs.Prelude.{◌≡◌, ◌≤◌};
+ghost use Rattle.std.specs.Prelude.{◌≡◌, ◌≤◌, IfOk};
 ghost use Rattle.layout.specs.Refusal.{first};
 ghost use Rattle.layout.specs.Refused.{says};
+ghost use Rattle.layout.specs.Head.{head_rows};
 ghost use Rattle.meaning.specs.Longest.{longest};
 ghost use Rattle.guard.specs.Told.{told_all};
-ghost use Rattle.carry.specs.Bytes.{carried, is_old};
+ghost use Rattle.carry.specs.Bytes.{carried, is_old, around_set, Begins};
 ghost use Rattle.carry.specs.Rows.{version_rows};
 ghost use Rattle.carry.specs.Read.{ReadInVersion, ReadBackAs};
 
@@ -40,18 +41,27 @@ const OLD: Version = Version {
 // What stands after a record's outcomes: the count and the lost byte.
 const AFTER: usize = 9;
 
-// Tests 18, 1 to 7, 21, 20, 13 and 19, of a version whose records have so many outcomes. They and a job more fill a window
-// of as many jobs, so a set is too wide for them where it isn't taken with that as the longest window.
-fn test_record(bytes: &[u8], version: Version) -> Result<(), Refused>
+// Tests 18, of a version whose records have so many outcomes, and says where they begin.
+fn test_head(bytes: &[u8], version: Version) -> Result<usize, Refused>
     requires { version.held ≤ carried }
-    ensures { says result ≡ first (version_rows longest version.number version.held bytes.now) }
+    ensures tested { says result ≡ first (head_rows (around_set version.held) version.number 18 18 bytes.now) }
+    ensures begins { IfOk result (Begins version.held bytes.now) }
 {
     let tail = version.held + AFTER;
     if layout::check_head(bytes, 5 + tail, version.number).is_err() {
         return Err(Refused::Record);
     }
-    let n = bytes.len();
-    let end = n - tail;
+    Ok(bytes.len() - tail)
+}
+
+// Tests 18, 1 to 7, 21, 20, 13 and 19, and says where the outcomes begin. They and a job more fill a window of as many
+// jobs, so a set is too wide for them where it isn't taken with that as the longest window.
+fn test_record(bytes: &[u8], version: Version) -> Result<usize, Refused>
+    requires { version.held ≤ carried }
+    ensures tested { says result ≡ first (version_rows longest version.number version.held bytes.now) }
+    ensures begins { IfOk result (Begins version.held bytes.now) }
+{
+    let end = test_head(bytes, version)?;
     let set = &bytes[5..end];
     sets::read_set(set)?;
     if sets::read_set_within(set, (version.held + 1) as u8).is_err() {
@@ -61,10 +71,10 @@ fn test_record(bytes: &[u8], version: Version) -> Result<(), Refused>
     if let Some(place) = patterns::first_bad(&bytes[end..past]) {
         return Err(Refused::Outcome { place });
     }
-    if 1 < bytes[n - 1] {
+    if 1 < bytes[past + 8] {
         return Err(Refused::LostByte);
     }
-    Ok(())
+    Ok(end)
 }
 
 // Tells a guard outcomes one after the other.
@@ -82,20 +92,18 @@ fn read_version(bytes: &[u8], version: Version, table: &[u8]) -> Result<Guard, R
     requires { version.held ≤ carried }
     ensures { ReadInVersion longest carried version.number version.held bytes.now table.now result }
 {
-    test_record(bytes, version)?;
+    let end = test_record(bytes, version)?;
+    let past = end + version.held;
     let mut walked = Guard::start(table)?;
     let hits = [1u8; HELD];
     tell_all(&mut walked, table, &hits[version.held..]);
-    let n = bytes.len();
-    let end = n - (version.held + AFTER);
-    let past = end + version.held;
     tell_all(&mut walked, table, &bytes[end..past]);
     if walked.lost {
         return Err(Refused::Walk);
     }
     Ok(Guard {
-        lost: bytes[n - 1] != 0,
-        count: layout::eight_at(bytes, n - AFTER),
+        lost: bytes[past + 8] != 0,
+        count: layout::eight_at(bytes, past),
         ..walked
     })
 }

@@ -23,11 +23,11 @@ use Rattle.carry.specs.Bytes.{carried, outcome_bytes, outcomes_in, lost_byte}
 use Rattle.carry.specs.Rows.{version_rows, led_to}
 use Rattle.carry.specs.Read.{ReadInVersion}
 use Rattle.carry.proofs.Said.{handed_on}
-use Rattle.carry.proofs.Parts.{hits_part, outcome_part, outcome_count}
+use Rattle.carry.proofs.Parts.{hits_part, outcome_part, outcome_count, count_part, lost_part}
 use Rattle.carry.proofs.Accepted.{Record, accepted_record}
 use Rattle.carry.proofs.Reading.{back_refused, back_table, back_nowhere, back_led}
 use Rattle.carry.proofs.Walking.{hits_passed, hits_outcomes, walked_lost, walked_kept}
-use Rattle.carry.proofs.read_version.Goals.{After-tell_all-2, In_ok-test_record, In_ok-walked}
+use Rattle.carry.proofs.read_version.Goals.{After-tell_all-2, In_ok-end, In_ok-walked}
 use Rattle.carry.proofs.read_version.Goals as goal
 
 -- the bytes told: hits for the outcomes that a record doesn't have, then its own
@@ -57,10 +57,10 @@ module _ (v h : ℕ) (r b : List ℕ) (most : h ≤ carried) (right : Record lon
       (ap (walk (machine_of b) 0) (sym os) ∙ w ∙ ap {B = Option ℕ} some (sym (ap (λ z. z.state) told)), ap (λ z. z.outcomes) told ∙ o ∙ os)
 
 -- past the record's tests
-accepted : (c : In_ok-test_record) → first (version_rows longest c.args.version.number c.args.version.held c.args.bytes.now) ≡ passed
-accepted c = sym c.in_ok-test_record.ensures
+accepted : (c : In_ok-end) → first (version_rows longest c.args.version.number c.args.version.held c.args.bytes.now) ≡ passed
+accepted c = sym c.in_ok-end.ensures.tested
 
-right : (c : In_ok-test_record) → Record longest c.args.version.number c.args.version.held c.args.bytes.now
+right : (c : In_ok-end) → Record longest c.args.version.number c.args.version.held c.args.bytes.now
 right c = accepted_record longest c.args.version.number c.args.version.held c.args.bytes.now (accepted c)
 
 -- past the table's
@@ -75,61 +75,49 @@ told c =
     c.tell_all-2.ensures
     ∙ ap₂ (λ g l. told_all b g l)
     (c.tell_all.ensures ∙ ap₂ (λ g l. told_all b g l) c.in_ok-walked.ensures.guard (hits_part carried h c.requires))
-    (outcome_part h r)
+    (outcome_part h r c.in_ok-end.end c.in_ok-end.ensures.begins)
     ∙ sym (told_then b fresh (replicate (carried - h) 1) (outcome_bytes h r))
 
-pub returns-in_err-test_record : goal.returns-in_err-test_record
-returns-in_err-test_record c =
-    let a = c.args in
-    subst (ReadInVersion longest carried a.version.number a.version.held a.bytes.now a.table.now) (sym (handed_on _ c.from_residual.result c.from_residual.ensures.1))
-    (back_refused longest carried a.version.number a.version.held a.bytes.now a.table.now _ (sym c.in_err-test_record.ensures))
+pub returns-in_err-end : goal.returns-in_err-end
+returns-in_err-end c =
+    let v = c.args.version in
+    let r = c.args.bytes.now in
+    let b = c.args.table.now in
+    let f = c.from_residual in
+    subst (ReadInVersion longest carried v.number v.held r b) (sym (handed_on _ f.result f.ensures.1)) (back_refused longest carried v.number v.held r b _ (sym c.in_err-end.ensures.tested))
 
 pub returns-in_err-walked : goal.returns-in_err-walked
 returns-in_err-walked c =
-    let a = c.args in
+    let v = c.args.version in
+    let r = c.args.bytes.now in
+    let b = c.args.table.now in
     let f = c.from_residual-in_err-walked in
-    subst (ReadInVersion longest carried a.version.number a.version.held a.bytes.now a.table.now) (sym (handed_on _ f.result f.ensures.1))
-    (back_table longest carried a.version.number a.version.held a.bytes.now a.table.now (accepted (goal.at.returns-in_err-walked c).In_ok-test_record) _ (sym c.in_err-walked.ensures.refusal))
+    subst (ReadInVersion longest carried v.number v.held r b) (sym (handed_on _ f.result f.ensures.1))
+    (back_table longest carried v.number v.held r b (accepted (goal.at.returns-in_err-walked c).In_ok-end) _ (sym c.in_err-walked.ensures.refusal))
 
 pub returns-then-walked : goal.returns-then-walked
 returns-then-walked c =
-    let a = c.args in
-    let v = a.version in
-    let r = a.bytes.now in
-    let b = a.table.now in
+    let v = c.args.version in
+    let r = c.args.bytes.now in
+    let b = c.args.table.now in
     let at = goal.at.returns-then-walked c in
     let k = checked at.In_ok-walked in
-    back_nowhere longest carried v.number v.held r b (accepted at.In_ok-test_record) k
-    (led_nowhere v.number v.held r b c.requires (right at.In_ok-test_record) k c.tell_all-2.new.guard (told at.After-tell_all-2) c.if-walked.true)
+    back_nowhere longest carried v.number v.held r b (accepted at.In_ok-end) k
+    (led_nowhere v.number v.held r b c.requires (right at.In_ok-end) k c.tell_all-2.new.guard (told at.After-tell_all-2) c.if-walked.true)
 
 pub returns : goal.returns
 returns c =
-    let a = c.args in
-    let v = a.version in
-    let r = a.bytes.now in
-    let b = a.table.now in
+    let v = c.args.version in
+    let h = v.held in
+    let r = c.args.bytes.now in
+    let b = c.args.table.now in
     let at = goal.at.returns c in
     let k = checked at.In_ok-walked in
-    let (w, o) = led v.number v.held r b c.requires (right at.In_ok-test_record) k c.tell_all-2.new.guard (told at.After-tell_all-2) c.if-walked.false in
+    let (w, o) = led v.number h r b c.requires (right at.In_ok-end) k c.tell_all-2.new.guard (told at.After-tell_all-2) c.if-walked.false in
     let to = c.tell_all-2.new.guard.state in
-    subst (ReadInVersion longest carried v.number v.held r b)
-    (ap₂ {C = Result Guard Refused} (λ os n. Ok (record { state = to; lost = outcome (lost_byte r); outcomes = os; count = n })) (sym o) (sym c.eight_at.ensures))
-    (back_led longest carried v.number v.held r b (accepted at.In_ok-test_record) k to w)
-
-pub overflow_sub-end : goal.overflow_sub-end
-overflow_sub-end c = omega (arith, (right (goal.at.overflow_sub-end c).In_ok-test_record).least)
-
-pub slice_bounds-tell_all-end-2 : goal.slice_bounds-tell_all-end-2
-slice_bounds-tell_all-end-2 c = omega (arith, (right (goal.at.slice_bounds-tell_all-end-2 c).In_ok-test_record).least)
-
-pub overflow_sub-n : goal.overflow_sub-n
-overflow_sub-n c = omega (arith, (right (goal.at.overflow_sub-n c).In_ok-test_record).least)
-
-pub overflow_sub-result : goal.overflow_sub-result
-overflow_sub-result c = omega (arith, (right (goal.at.overflow_sub-result c).In_ok-test_record).least)
-
-pub bounds-bytes-n : goal.bounds-bytes-n
-bounds-bytes-n c = omega (arith, (right (goal.at.bounds-bytes-n c).In_ok-test_record).least)
-
-pub eight_at-requires : goal.eight_at-requires
-eight_at-requires c = omega (arith, (right (goal.at.eight_at-requires c).In_ok-test_record).least)
+    let end = c.in_ok-end.end in
+    let begins = c.in_ok-end.ensures.begins in
+    subst (ReadInVersion longest carried v.number h r b)
+    (ap₂ {C = Result Guard Refused} (λ os n. Ok (record { state = to; lost = outcome (lost_byte r); outcomes = os; count = n })) (sym o) (sym (c.eight_at.ensures ∙ count_part h r end begins))
+    ∙ ap {B = Result Guard Refused} (λ z. Ok (record { state = to; lost = outcome z; outcomes = c.tell_all-2.new.guard.outcomes; count = c.eight_at.result })) (sym (lost_part h r end begins)))
+    (back_led longest carried v.number h r b (accepted at.In_ok-end) k to w)
