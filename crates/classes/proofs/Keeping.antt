@@ -1,14 +1,12 @@
--- What a step of the rounds leaves alone: nothing past the four regions, in a round the first region neither, and so the room for the histories. Assumes nothing.
-use mathlib.Core.Path.{◌≡◌, refl, ◌∙◌}
+-- What a step of the rounds leaves alone: nothing past the four regions, in a round the first region neither. Assumes nothing.
+use mathlib.Core.Path.{refl, ◌∙◌}
 use mathlib.Core.List.{List}
-use Prim.Native.Nat.{ℕ, ◌-◌, ◌^◌, ◌≤◌, ◌<◌}
+use Prim.Native.Nat.{ℕ, ◌≤◌, ◌<◌}
 use native.Mathlib.Omega.{arith}
-use lib.ListN.{length, set, length-set}
-use lib.Pow.{pow_pos, pow_mono}
+use lib.ListN.{set, length-set}
 use lib.Seq.{get_or-set_other}
-use Rattle.meaning.specs.Longest.{longest}
 use Rattle.classes.specs.Area.{used, Within}
-use Rattle.classes.specs.Chain.{Room, Kept}
+use Rattle.classes.specs.Chain.{Kept}
 
 module _ (n : ℕ) where
   pub within_refl : (w : List ℕ) → Within n w w
@@ -29,9 +27,3 @@ module _ (n : ℕ) where
     within = record { length_stays = length-set w i x; beyond = λ k a. get_or-set_other w i k x 0 (omega arith) };
     first = λ k a. get_or-set_other w i k x 0 (omega arith);
   }
-
-  pub room_kept : (w w' : List ℕ) → length w' ≡ length w → Room n w → Room n w'
-  room_kept w w' e R = record { some_history = R.some_history; fits = R.fits; long = omega (arith, R.long) }
-
-  pub room_for : (m : ℕ) (w : List ℕ) → n ≡ 2 ^ m → m ≤ longest - 1 → used n ≤ length w → Room n w
-  room_for m w e h l = record { some_history = omega (arith, pow_pos m); fits = omega (arith, pow_mono h); long = l }

@@ -1,5 +1,5 @@
 pub mod Keeping
-pub mod Entries
+pub mod Storing
 pub mod Signatures
 pub mod Seek
 pub mod Grow
@@ -9,3 +9,4 @@ pub mod Told
 pub mod Marks
 pub mod OneJob
 pub mod Stages
+pub mod Result

@@ -2,19 +2,19 @@
 use mathlib.Core.Path.{◌≡◌, sym, ap, ◌∙◌, subst}
 use Rattle.std.specs.Prelude.{None}
 use mathlib.Core.List.{List}
-use Prim.Native.Nat.{ℕ, ◌+◌, ◌*◌, ◌<◌}
+use Prim.Native.Nat.{ℕ, ◌+◌, ◌*◌, ◌≤◌, ◌<◌}
 use native.Mathlib.Omega.{arith}
-use lib.ListN.{get_or, set}
+use lib.ListN.{length, get_or, set}
 use lib.Seq.{get_or-set_same, get_or-set_other}
+use Rattle.classes.specs.Area.{used}
 use Rattle.classes.specs.Signature.{sig, bucket}
-use Rattle.classes.specs.Chain.{new_class, head, link, bucket_of, Room, Grouped, Placed, Joins, Found, Kept, Rounded}
-use Rattle.classes.proofs.Keeping.{kept_trans, kept_set, room_kept}
+use Rattle.classes.specs.Chain.{new_class, head, link, bucket_of, Grouped, Placed, Joins, Found, Kept, Rounded}
+use Rattle.classes.proofs.Keeping.{kept_trans, kept_set}
 use Rattle.classes.proofs.Signatures.{sig_first, bucket_lt}
 use Rattle.classes.proofs.Grow.{grouped_joined, grouped_alone, chained_joined, chained_alone}
 
-pub placed_none : (n : ℕ) (w : List ℕ) → Room n w → ((b : ℕ) → b < n → head n w b ≡ 0) → Placed w n 0
-placed_none n w R empty = record {
-  room = R;
+pub placed_none : (n : ℕ) (w : List ℕ) → ((b : ℕ) → b < n → head n w b ≡ 0) → Placed w n 0
+placed_none n w empty = record {
   grouped = record {
     no_greater = λ g l. absurd (omega arith);
     of_itself = λ g l. absurd (omega arith);
@@ -29,7 +29,7 @@ placed_none n w R empty = record {
   };
 }
 
-module _ (w : List ℕ) (n h s : ℕ) (P : Placed w n h) (hn : h < n) (es : s ≡ sig w n h) where
+module _ (w : List ℕ) (n h s : ℕ) (long : used n ≤ length w) (P : Placed w n h) (hn : h < n) (es : s ≡ sig w n h) where
   abbrev classed : ℕ → List ℕ
   classed r = set w (n + h) r
 
@@ -38,10 +38,9 @@ module _ (w : List ℕ) (n h s : ℕ) (P : Placed w n h) (hn : h < n) (es : s �
       let w₁ = classed r in
       let K = kept_set n w (n + h) r (omega arith) (omega arith) in
       let off : (k : ℕ) → (k ≡ n + h → ⊥) → get_or w₁ k 0 ≡ get_or w k 0 = λ k ne. get_or-set_other w (n + h) k r 0 ne in
-      let new : new_class n w₁ h ≡ r = get_or-set_same w (n + h) r 0 (omega (arith, P.room.long)) in
+      let new : new_class n w₁ h ≡ r = get_or-set_same w (n + h) r 0 (omega (arith, long)) in
       let old : (g : ℕ) → g < h → new_class n w₁ g ≡ new_class n w g = λ g gl. off (n + g) (omega arith) in (
         record {
-          room = room_kept n w w₁ K.within.length_stays P.room;
           grouped = grouped_joined w w₁ n h hn K.first old P.grouped r J.below J.class (J.alike ∙ es) new;
           chained = chained_joined w w₁ n h hn K.first old P.chained (λ g gl. off (3 * n + g) (omega arith))
               (λ b bl. off (2 * n + b) (omega arith)) (omega arith);
@@ -61,7 +60,7 @@ module _ (w : List ℕ) (n h s : ℕ) (P : Placed w n h) (hn : h < n) (es : s �
 
     pub placed_alone : Found w n h s None → Placed w₃ n (h + 1) × Kept n w w₃
     placed_alone none_below =
-        let bl : b < n = omega (arith, bucket_lt n s P.room.some_history) in
+        let bl : b < n = omega (arith, bucket_lt n s (omega arith)) in
         let own : b ≡ bucket_of w n h = eb ∙ ap (bucket n) es in
         let K₁ = kept_set n w (n + h) h (omega arith) (omega arith) in
         let K₂ = kept_set n w₁ (3 * n + h) (head n w₁ b) (omega arith) (omega arith) in
@@ -79,7 +78,6 @@ module _ (w : List ℕ) (n h s : ℕ) (P : Placed w n h) (hn : h < n) (es : s �
         ∙ get_or-set_other w (n + h) (2 * n + b) h 0 (omega arith) in
         let old : (g : ℕ) → g < h → new_class n w₃ g ≡ new_class n w g = λ g gl. off (n + g) (omega arith) (omega arith) (omega arith) in (
           record {
-            room = room_kept n w w₃ K.within.length_stays P.room;
             grouped = grouped_alone w w₃ n h hn K.first old P.grouped (λ g gl c e. none_below g gl c (e ∙ sym es)) new;
             chained = chained_alone w w₃ n h hn K.first old P.chained (λ g gl. off (3 * n + g) (omega arith) (omega arith) (omega arith)) new
                 (subst (λ z. head n w₃ z ≡ h + 1) own top)
@@ -90,9 +88,9 @@ module _ (w : List ℕ) (n h s : ℕ) (P : Placed w n h) (hn : h < n) (es : s �
         )
 
 -- at the end
-module _ (n : ℕ) (w w' : List ℕ) (R : Room n w) (K : Kept n w w') (G : Grouped w' n n) where
+module _ (n : ℕ) (w w' : List ℕ) (some_history : 1 ≤ n) (K : Kept n w w') (G : Grouped w' n n) where
   sig_was : (g : ℕ) → g < n → sig w' n g ≡ sig w n g
-  sig_was g l = sig_first w w' n g K.first R.some_history l
+  sig_was g l = sig_first w w' n g K.first some_history l
 
   one_class : (g h : ℕ) → g < n → h < n → sig w' n g ≡ sig w' n h → new_class n w' g < new_class n w' h → ⊥
   one_class g h i l e less =

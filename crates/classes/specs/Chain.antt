@@ -1,6 +1,6 @@
 -- What the work area holds in a round, when the histories below h have got their classes: in the second region the classes, in the third the heads of the buckets and in the fourth the links.
-use Rattle.std.specs.Prelude.{◌≡◌, Option, Some, None, List, ℕ, ◌+◌, ◌-◌, ◌*◌, ◌≤◌, ◌<◌, length, get_or}
-use Rattle.classes.specs.Area.{used, high, Within}
+use Rattle.std.specs.Prelude.{◌≡◌, Option, Some, None, List, ℕ, ◌+◌, ◌-◌, ◌*◌, ◌≤◌, ◌<◌, get_or}
+use Rattle.classes.specs.Area.{Within}
 use Rattle.classes.specs.Signature.{sig, bucket}
 
 -- with n histories: the class of history g in this round, the head of bucket b, and what is linked to g
@@ -15,12 +15,6 @@ link n w g = get_or w (3 * n + g) 0
 
 abbrev pub bucket_of : List ℕ → ℕ → ℕ → ℕ
 bucket_of w n g = bucket n (sig w n g)
-
--- there are n histories, and room for them
-pub record Room (n : ℕ) (w : List ℕ) : Type 0 where
-  pub some_history : 1 ≤ n
-  pub fits : n ≤ high
-  pub long : used n ≤ length w
 
 -- each history below h has as its class the one history of its signature that is its own class
 pub record Grouped (w : List ℕ) (n h : ℕ) : Type 0 where
@@ -43,7 +37,6 @@ pub record Chained (w : List ℕ) (n h : ℕ) : Type 0 where
   pub link_most : (g k : ℕ) → g < h → k < g → new_class n w g ≡ g → new_class n w k ≡ k → bucket_of w n k ≡ bucket_of w n g → k < link n w g
 
 pub record Placed (w : List ℕ) (n h : ℕ) : Type 0 where
-  pub room : Room n w
   pub grouped : Grouped w n h
   pub chained : Chained w n h
 

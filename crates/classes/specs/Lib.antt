@@ -3,3 +3,4 @@ pub mod Classed
 pub mod Signature
 pub mod Chain
 pub mod Stage
+pub mod Stores
