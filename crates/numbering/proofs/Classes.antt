@@ -3,13 +3,12 @@ use mathlib.Core.Path.{◌≡◌, sym, ◌∙◌, subst}
 use mathlib.Core.List.{List}
 use Prim.Native.Nat.{ℕ, ◌^◌, ◌≤◌, ◌<◌}
 use native.Mathlib.Omega.{arith}
-use lib.ListN.{length}
 use lib.Pow.{pow_pos}
 use Rattle.machines.specs.Same.{Same}
 use Rattle.machines.proofs.Rounds.{same_trans}
 use Rattle.meaning.specs.declared.LimitSet.{LimitSet}
 use Rattle.history.specs.Machine.{history_machine}
-use Rattle.classes.specs.Area.{used, high, class_at}
+use Rattle.classes.specs.Area.{class_at}
 use Rattle.classes.specs.Classed.{Classed}
 use Rattle.numbering.specs.Work.{OfSomeSet, Ready, Kept}
 use Rattle.numbering.proofs.Keeping.{class_stays, may_stays}
@@ -38,11 +37,11 @@ module _ (s : LimitSet) (m : ℕ) (w : List ℕ) (C : Classed s m w) where
       stays : (h : ℕ) → h < 2 ^ m → class_at w' h ≡ class_at w h
       stays = class_stays (2 ^ m) w w' K
 
-pub classed_ready : (n : ℕ) (w : List ℕ) → n ≤ high → used n ≤ length w → OfSomeSet n w → Ready n w
-classed_ready n w fits room (s, m, e, C) = record {
-  some_history = omega (arith, pow_pos m);
-  fits = fits;
-  room = room;
+pub classed_ready : (n : ℕ) (w : List ℕ) → OfSomeSet n w → Ready n w
+classed_ready n w (s, m, e, C) = record {
   no_greater = λ h l. C.no_greater h (omega arith);
   own_class = λ h l. classed_idem s m w C h (omega arith);
 }
+
+pub some_histories : (n : ℕ) (w : List ℕ) → OfSomeSet n w → 1 ≤ n
+some_histories n w (_, m, e, _) = omega (arith, pow_pos m)

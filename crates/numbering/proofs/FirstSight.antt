@@ -6,22 +6,22 @@ use Prim.Native.Nat.{ℕ, ◌+◌, ◌-◌, ◌*◌, ◌≤◌, ◌<◌}
 use native.Mathlib.Decide.{ℕ_discrete}
 use native.Mathlib.Omega.{arith}
 use borrow.Author.Count.{below_more}
-use lib.ListN.{get_or, set, length-set}
+use lib.ListN.{length, get_or, set, length-set}
 use lib.Seq.{get_or-set_same, get_or-set_other}
-use Rattle.classes.specs.Area.{class_at}
+use Rattle.classes.specs.Area.{used, class_at}
 use Rattle.numbering.specs.Numbered.{number_at, class_of}
-use Rattle.numbering.specs.Work.{Ready, Kept}
+use Rattle.numbering.specs.Work.{Kept}
 use Rattle.numbering.specs.Rows.{Ordered, Visited}
 use Rattle.numbering.proofs.Zeros.{zeros_one_less}
 use Rattle.numbering.proofs.Keeping.{kept_trans, kept_store, class_stays}
 
 -- number v is stored for class c, and c in the order
-module _ (n : ℕ) (w : List ℕ) (c v : ℕ) (R : Ready n w) (below : c < n) (own : class_at w c ≡ c) (O : Ordered n w v)
+module _ (n : ℕ) (w : List ℕ) (c v : ℕ) (long : used n ≤ length w) (below : c < n) (own : class_at w c ≡ c) (O : Ordered n w v)
     (free : number_at n w c ≡ 0) where
   pub number_below : v < n
   number_below =
       let g : ℕ → ℕ = λ k. number_at n (set w (2 * n + c) 1) k in
-      let e : g c ≡ 1 = get_or-set_same w (2 * n + c) 1 0 (omega (arith, R.room)) in
+      let e : g c ≡ 1 = get_or-set_same w (2 * n + c) 1 0 (omega (arith, long)) in
       omega (
         arith,
         O.rest_free,
@@ -44,12 +44,12 @@ module _ (n : ℕ) (w : List ℕ) (c v : ℕ) (R : Ready n w) (below : c < n) (o
   unfolding w₁ w₂
   number_new =
       get_or-set_other w₁ (3 * n + v) (2 * n + c) c 0 (omega arith)
-      ∙ get_or-set_same w (2 * n + c) (v + 1) 0 (omega (arith, R.room))
+      ∙ get_or-set_same w (2 * n + c) (v + 1) 0 (omega (arith, long))
 
   order_new : class_of n w₂ v ≡ c
   unfolding w₁ w₂
   order_new = get_or-set_same w₁ (3 * n + v) c 0
-      (omega (arith, length-set w (2 * n + c) (v + 1), number_below, R.room))
+      (omega (arith, length-set w (2 * n + c) (v + 1), number_below, long))
 
   kept_new : Kept n w w₂
   unfolding w₁ w₂

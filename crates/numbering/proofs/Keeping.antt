@@ -42,9 +42,6 @@ module _ (n : ℕ) (w w' : List ℕ) (K : Kept n w w') (h : ℕ) (l : h < n) whe
 
 pub ready_kept : (n : ℕ) (w w' : List ℕ) → Kept n w w' → Ready n w → Ready n w'
 ready_kept n w w' K R = record {
-  some_history = R.some_history;
-  fits = R.fits;
-  room = omega (arith, R.room, K.within.length_stays);
   no_greater = λ h l. omega (arith, stays h l, R.no_greater h l);
   own_class = λ h l.
       ap (class_at w') (stays h l) ∙ stays (class_at w h) (omega (arith, R.no_greater h l)) ∙ R.own_class h l ∙ sym (stays h l);

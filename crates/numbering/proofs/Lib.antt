@@ -1,5 +1,6 @@
 pub mod Zeros
 pub mod Keeping
+pub mod Storing
 pub mod FirstSight
 pub mod Reading
 pub mod Start

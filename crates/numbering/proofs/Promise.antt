@@ -18,7 +18,11 @@ use Rattle.classes.proofs.Converge.{pushed_lt}
 use Rattle.classes.proofs.Told.{next_class_pushed}
 use Rattle.numbering.specs.Numbered.{number_at, class_of, number_after, move_of, Numbered}
 use Rattle.numbering.specs.Work.{Kept, NumberedFrom}
-use Rattle.numbering.specs.Rows.{possible, Leads, Numbering}
+use Rattle.numbering.specs.declared.Numbers.{Numbers}
+use Rattle.numbering.specs.Rows.{possible, Leads, Numbering, ReadTo}
+use Rattle.numbering.specs.Stores.{Stores}
+use Rattle.numbering.proofs.Keeping.{kept_trans}
+use Rattle.numbering.proofs.Storing.{stores_then}
 use Rattle.numbering.proofs.Classes.{classed_kept}
 use Rattle.numbering.proofs.Table.{move_where_possible, number_at_least_1, number_at_most_count, move_leads, well_made, at_sight}
 use Rattle.numbering.proofs.Reading.{class_after_below}
@@ -45,7 +49,7 @@ module _ (m : ℕ) (w : List ℕ) (count : ℕ) (N : Numbering (2 ^ m) w count (
   class_led j t o L =
       let c = next_class w (2 ^ m) (class_of (2 ^ m) w j) o in
       let e : number_at (2 ^ m) w c - 1 ≡ t = omega (arith, L.there) in
-      ap (class_of (2 ^ m) w) (sym e) ∙ N.ordered.class_of_number c (class_after_below N.ready j o) (omega (arith, L.there))
+      ap (class_of (2 ^ m) w) (sym e) ∙ N.ordered.class_of_number c (class_after_below N j o) (omega (arith, L.there))
       ∙ next_class_pushed w m (class_of (2 ^ m) w j) o
 
   moves : (j t : ℕ) (o : Bool) → j < count → move_of w (2 ^ m) (class_of (2 ^ m) w j) o ≡ some t
@@ -96,3 +100,13 @@ numbered_from n w w' count p K N e = record {
       numbered m w' count N₂ s (classed_kept s m w C w' (subst (λ k. Kept k w w') f K));
   kept = K;
 }
+
+-- of the slice that was lent
+pub numbered_told : (n : ℕ) (w w' : List ℕ) (a b c : Numbers) (p : ℕ) → a.n ≡ n → a.work.now ≡ w
+    → Stores (λ n w w' count r. ReadTo n w w' 0 r (place 0 false)) a b → Stores (λ n w w' count r. Numbering n w' r p × Kept n w w') b c
+    → p ≡ place c.count false → w' ≡ c.work.now → NumberedFrom n w w' c.count
+numbered_told n w w' a b c p e f S I q g =
+    let t : Stores (λ n w w' count r. NumberedFrom n w w' r) a c =
+    stores_then (λ R (N, K). numbered_from a.n a.work.now c.work.now c.count p (kept_trans R.kept K) N q) S I in
+    subst (λ z. NumberedFrom n w z c.count) (sym g)
+    (subst (λ z. NumberedFrom n z c.work.now c.count) f (subst (λ z. NumberedFrom z a.work.now c.work.now c.count) e t.stored))

@@ -12,7 +12,6 @@ use Rattle.history.specs.History.{shifted}
 use Rattle.history.proofs.Shifted.{shifted_lt}
 use Rattle.classes.specs.Area.{next_class}
 use Rattle.numbering.specs.Numbered.{number_at, class_of}
-use Rattle.numbering.specs.Work.{Ready}
 use Rattle.numbering.specs.Rows.{Visited, possible, class_after, Leads, Found, Numbering, ReadTo}
 use Rattle.numbering.proofs.Keeping.{kept_none, class_stays, possible_stays, ready_kept}
 
@@ -23,10 +22,13 @@ place_one s r false false e = (omega arith, refl)
 place_one s r true false e = absurd (omega arith)
 place_one s r false true e = absurd (omega arith)
 
-pub class_after_below : {n : ℕ} {w : List ℕ} → Ready n w → (s : ℕ) (o : Bool) → class_after n w s o < n
-class_after_below {n} {w} R s o =
-    let l = shifted_lt n (class_of n w s) o R.some_history in
-    omega (arith, R.no_greater (shifted (n - 1) (class_of n w s) o) l)
+pub some_histories : {n : ℕ} {w : List ℕ} {count p : ℕ} → Numbering n w count p → 1 ≤ n
+some_histories N = omega (arith, N.some_state, N.ordered.rest_free)
+
+pub class_after_below : {n : ℕ} {w : List ℕ} {count p : ℕ} → Numbering n w count p → (s : ℕ) (o : Bool) → class_after n w s o < n
+class_after_below {n} {w} N s o =
+    let l = shifted_lt n (class_of n w s) o (some_histories N) in
+    omega (arith, N.ready.no_greater (shifted (n - 1) (class_of n w s) o) l)
 
 row_no_later : (s r : ℕ) (o x : Bool) → place s o < place r x → s ≤ r
 row_no_later s r o x l = omega (arith, bit_le x)
@@ -66,7 +68,7 @@ module _ (n : ℕ) (w w' : List ℕ) (count r i : ℕ) (o : Bool) (N : Numbering
   after_stays s x l =
       ap (λ c. next_class w' n c x) (G.order_stays s l)
       ∙ class_stays n w w' G.kept (shifted (n - 1) (class_of n w s) x)
-      (shifted_lt n (class_of n w s) x N.ready.some_history)
+      (shifted_lt n (class_of n w s) x (some_histories N))
 
   outcome_stays : (s : ℕ) (x : Bool) → s < count → possible w' (class_of n w' s) x ≡ possible w (class_of n w s) x
   outcome_stays s x l =
@@ -75,7 +77,7 @@ module _ (n : ℕ) (w w' : List ℕ) (count r i : ℕ) (o : Bool) (N : Numbering
 
   number_stays : (s : ℕ) (x : Bool) → s < count → 1 ≤ number_at n w (class_after n w s x)
       → number_at n w' (class_after n w' s x) ≡ number_at n w (class_after n w s x)
-  number_stays s x l p = ap (number_at n w') (after_stays s x l) ∙ G.numbers_stay (class_after n w s x) (class_after_below N.ready s x) p
+  number_stays s x l p = ap (number_at n w') (after_stays s x l) ∙ G.numbers_stay (class_after n w s x) (class_after_below N s x) p
 
   leads_on : (s t : ℕ) (x : Bool) → s < count → Leads n w s t x → Leads n w' s t x
   leads_on s t x l L = record {
@@ -116,7 +118,7 @@ module _ (n : ℕ) (w w' : List ℕ) (count r i : ℕ) (o : Bool) (N : Numbering
           };
           lower_before = λ q u y c L.
               let M = leads_back q u y (omega (arith, row_no_later q i y o c)) c L in
-              omega (arith, M.there, N.ordered.no_more (class_after n w q y) (class_after_below N.ready q y));
+              omega (arith, M.there, N.ordered.no_more (class_after n w q y) (class_after_below N q y));
         },
       ))
 
@@ -139,7 +141,7 @@ module _ (n : ℕ) (w w' : List ℕ) (count r i : ℕ) (o : Bool) (N : Numbering
       ordered = G.ordered;
       some_state = omega (arith, N.some_state, G.grows);
       start = G.order_stays 0 N.some_state ∙ N.start
-          ∙ sym (class_stays n w w' G.kept (n - 1) (omega (arith, N.ready.some_history)));
+          ∙ sym (class_stays n w w' G.kept (n - 1) (omega (arith, some_histories N)));
       closed = closed_more;
       found = found_more;
     };

@@ -22,11 +22,11 @@ ordered_none n w z = record {
   class_of_number = λ c l p. absurd (omega (arith, z c l));
 }
 
-pub read_start : (n : ℕ) (w w₁ w₂ : List ℕ) (r : ℕ) → Ready n w → Cleared n w w₁
+pub read_start : (n : ℕ) (w w₁ w₂ : List ℕ) (r : ℕ) → 1 ≤ n → Ready n w → Cleared n w w₁
     → Visited n w₁ w₂ (class_at w₁ (n - 1)) 0 r → ReadTo n w w₂ 0 r (place 0 false)
-read_start n w w₁ w₂ r R D G =
+read_start n w w₁ w₂ r some_history R D G =
     let K = kept_trans D.kept G.kept in
-    let last : n - 1 < n = omega (arith, R.some_history) in
+    let last : n - 1 < n = omega arith in
     let c = class_at w₁ (n - 1) in
     let below : c < n = omega (arith, class_stays n w w₁ D.kept (n - 1) last, R.no_greater (n - 1) last) in
     let some : 1 ≤ r = omega (arith, G.numbered, G.ordered.no_more c below) in

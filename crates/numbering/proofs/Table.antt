@@ -30,7 +30,7 @@ module _ (n : ℕ) (w : List ℕ) (count : ℕ) (N : Numbering n w count (place 
   number_at_least_1 j o l = N.closed j o l (omega (arith, bit_le o))
 
   pub number_at_most_count : (j : ℕ) (o : Bool) → number_after w n (class_of n w j) o ≤ count
-  number_at_most_count j o = N.ordered.no_more (next_class w n (class_of n w j) o) (class_after_below N.ready j o)
+  number_at_most_count j o = N.ordered.no_more (next_class w n (class_of n w j) o) (class_after_below N j o)
 
   pub move_leads : (j t : ℕ) (o : Bool) → j < count → move_of w n (class_of n w j) o ≡ some t → Leads n w j t o
   move_leads j t o l e =

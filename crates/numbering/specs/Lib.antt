@@ -1,3 +1,4 @@
 pub mod Numbered
 pub mod Work
 pub mod Rows
+pub mod Stores

@@ -1,7 +1,7 @@
 -- What numbering asks of the lent work area, and what it makes of it.
-use Rattle.std.specs.Prelude.{◌≡◌, List, ℕ, ◌^◌, ◌≤◌, ◌<◌, length, get_or}
+use Rattle.std.specs.Prelude.{◌≡◌, List, ℕ, ◌^◌, ◌≤◌, ◌<◌, get_or}
 use Rattle.meaning.specs.declared.LimitSet.{LimitSet}
-use Rattle.classes.specs.Area.{used, high, class_at, Within}
+use Rattle.classes.specs.Area.{class_at, Within}
 use Rattle.classes.specs.Classed.{Classed}
 use Rattle.numbering.specs.Numbered.{Numbered}
 
@@ -11,9 +11,6 @@ OfSomeSet n w = (s : LimitSet) × (m : ℕ) × (n ≡ 2 ^ m) × Classed s m w
 
 -- each of n histories has a class no greater than it, which is its own class
 pub record Ready (n : ℕ) (w : List ℕ) : Type 0 where
-  pub some_history : 1 ≤ n
-  pub fits : n ≤ high
-  pub room : used n ≤ length w
   pub no_greater : (h : ℕ) → h < n → class_at w h ≤ h
   pub own_class : (h : ℕ) → h < n → class_at w (class_at w h) ≡ class_at w h
 

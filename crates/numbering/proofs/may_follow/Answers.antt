@@ -1,8 +1,0 @@
--- `numbering::may_follow`: the definition's two cases. Assumes nothing.
-use mathlib.Core.Path.{ap, sym}
-use Rattle.numbering.specs.Rows.{possible}
-use Rattle.numbering.proofs.may_follow.Goals as goal
-
-pub returns : goal.returns
-returns c =
-    ap (possible c.args.work.now c.args.class) (sym c.if-hit.false)
