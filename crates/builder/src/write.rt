@@ -1,9 +1,8 @@
 // The bytes of the table that a numbered work area holds.
-ghost use Rattle.std.specs.Prelude.{◌≡◌, true, false, cond, ◌++◌, ◌+◌, ◌-◌, ◌*◌, ◌≤◌, ◌<◌, length, take, drop};
-ghost use Rattle.classes.specs.Area.{may_at};
-ghost use Rattle.numbering.specs.Numbered.{number_after, numbered_machine};
-ghost use Rattle.table.specs.Bytes.{pair_bytes, row_bytes, head_then, bytes_of, size_of, no_miss};
-ghost use Rattle.builder.specs.Rows.{Entries, Writable};
+ghost use Rattle.std.specs.Prelude.{◌≡◌, true, false, ◌++◌, ◌+◌, ◌*◌, ◌≤◌, ◌<◌, length, take, drop};
+ghost use Rattle.numbering.specs.Numbered.{class_of, number_after, move_of, numbered_machine};
+ghost use Rattle.table.specs.Bytes.{pair_bytes, entry_of, row_bytes, head_then, bytes_of, size_of};
+ghost use Rattle.builder.specs.Rows.{Writable};
 
 use classes::MAY_MISS;
 
@@ -34,46 +33,64 @@ fn put_head(out: &mut [u8], n: usize)
     put_two(out, 5, n as u16);
 }
 
-// The number and one of the class that an outcome leads to from a history.
-fn number_after(work: &[u16], n: usize, history: usize, hit: bool) -> u16
-    requires { Entries n work.now × (history < n) }
-    ensures { result ≡ number_after work.now n history hit }
-{
-    let next = history::push_index(history, hit, n);
-    let class = (work[next] % MAY_MISS) as usize;
-    work[2 * n + class]
+// A work area of n histories in which `count` states are numbered: every move of them leads to a numbered class.
+#[derive(Clone, Copy)]
+struct States<'a> {
+    work: &'a [u16],
+    n: usize,
+    count: usize,
+    ghost writable: { Writable n work.now count },
 }
 
-// What the table holds for a miss after a history: where it leads, or that it isn't allowed.
-fn miss_entry(work: &[u16], n: usize, history: usize) -> u16
-    requires entries { Entries n work.now × (history < n) }
-    requires bound { may_at work.now history ≡ true → 1 ≤ number_after work.now n history false }
-    ensures { result ≡ cond (may_at work.now history) (number_after work.now n history false - 1) no_miss }
-{
-    if work[history] < MAY_MISS {
-        return table::NO_MISS;
+impl<'a> States<'a> {
+    // The history that a state stands for.
+    fn history(self, state: usize) -> usize
+        requires { state < self.count }
+        ensures { (result ≡ class_of self.entry.n self.entry.work.now state) × (result < self.entry.n) }
+    {
+        self.work[3 * self.n + state] as usize
     }
-    number_after(work, n, history, false) - 1
-}
 
-// Where a hit leads after a history.
-fn hit_entry(work: &[u16], n: usize, history: usize) -> u16
-    requires { Entries n work.now × (history < n) × (1 ≤ number_after work.now n history true) }
-    ensures { result ≡ number_after work.now n history true - 1 }
-{
-    number_after(work, n, history, true) - 1
-}
+    // The number and one of the class that an outcome leads to from a history.
+    fn number_after(self, history: usize, hit: bool) -> u16
+        requires { history < self.n }
+        ensures { result ≡ number_after self.entry.work.now self.entry.n history hit }
+    {
+        let next = history::push_index(history, hit, self.n);
+        let class = (self.work[next] % MAY_MISS) as usize;
+        self.work[2 * self.n + class]
+    }
 
-// The rows of all states, after the head.
-fn put_rows(work: &[u16], n: usize, count: usize, out: &mut [u8])
-    requires { Writable n work.now count × (size_of count ≤ length out.old) }
-    ensures { out.new ≡ take 7 out.old ++ (row_bytes (numbered_machine n work.now count) 0 count ++ drop (size_of count) out.old) }
-{
-    for i in 0..count {
-        let history = work[3 * n + i] as usize;
-        let miss = miss_entry(work, n, history);
-        let hit = hit_entry(work, n, history);
-        put_row(out, 7 + 4 * i, miss, hit);
+    // What the table holds for a miss in a state: where it leads, or that it isn't allowed.
+    fn miss_entry(self, state: usize) -> u16
+        requires { state < self.count }
+        ensures { result ≡ entry_of (move_of self.entry.work.now self.entry.n (class_of self.entry.n self.entry.work.now state) false) }
+    {
+        let history = self.history(state);
+        if self.work[history] < MAY_MISS {
+            return table::NO_MISS;
+        }
+        self.number_after(history, false) - 1
+    }
+
+    // Where a hit leads in a state.
+    fn hit_entry(self, state: usize) -> u16
+        requires { state < self.count }
+        ensures { result ≡ entry_of (move_of self.entry.work.now self.entry.n (class_of self.entry.n self.entry.work.now state) true) }
+    {
+        self.number_after(self.history(state), true) - 1
+    }
+
+    // The rows of all states, after the head.
+    fn put_rows(self, out: &mut [u8])
+        requires { size_of self.count ≤ length out.old }
+        ensures { out.new ≡ take 7 out.old ++ (row_bytes (numbered_machine self.entry.n self.entry.work.now self.entry.count) 0 self.entry.count ++ drop (size_of self.entry.count) out.old) }
+    {
+        for state in 0..self.count {
+            let miss = self.miss_entry(state);
+            let hit = self.hit_entry(state);
+            put_row(out, 7 + 4 * state, miss, hit);
+        }
     }
 }
 
@@ -82,6 +99,7 @@ pub fn write_table(work: &[u16], n: usize, count: usize, out: &mut [u8])
     requires { Writable n work.now count × (size_of count ≤ length out.old) }
     ensures { out.new ≡ bytes_of (numbered_machine n work.now count) ++ drop (size_of count) out.old }
 {
+    let states = States { work, n, count };
     put_head(out, count);
-    put_rows(work, n, count, out);
+    states.put_rows(out);
 }
