@@ -7,11 +7,10 @@ use Rattle.layout.specs.declared.Refused.{Refused}
 use Rattle.layout.proofs.Refusals.{same_answer}
 use Rattle.layout.proofs.Write.{written_one_result}
 use Rattle.guard.specs.declared.Guard.{Guard}
-use Rattle.guard.specs.Guard.{guard_in}
 use Rattle.carry.specs.Bytes.{new_version, size_of, record_of}
 use Rattle.carry.specs.Rows.{write_rows}
 use Rattle.carry.specs.Write.{RecordWrittenAs}
-use Rattle.carry.specs.Read.{ReadBackAs}
+use Rattle.carry.specs.Read.{guard_in, ReadBackAs}
 
 module _ (w h : ℕ) where
   pub record_written_one_result : (g : Guard) (set out o o' : List ℕ) (r r' : Result ℕ Refused) → RecordWrittenAs w h g set out o r → RecordWrittenAs w h g set out o' r' → (r ≡ r') × (o ≡ o')

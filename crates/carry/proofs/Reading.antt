@@ -11,9 +11,8 @@ use Rattle.layout.specs.Refused.{row_of, says}
 use Rattle.layout.proofs.Rows.{refused_before, passed_before, first_here, first_skip}
 use Rattle.table.specs.Rows.{table_rows}
 use Rattle.guard.specs.declared.Guard.{Guard}
-use Rattle.guard.specs.Guard.{guard_in}
 use Rattle.carry.specs.Rows.{version_rows, led_to, leads_nowhere, read_rows}
-use Rattle.carry.specs.Read.{guard_at, guard_when, ReadInVersion}
+use Rattle.carry.specs.Read.{guard_in, guard_at, guard_when, ReadInVersion}
 
 module _ (w n v h : ℕ) (r b : List ℕ) where
   -- the rows that are left after the record's

@@ -82,7 +82,7 @@ fn tell_all(guard: &mut Guard, table: &[u8], outcomes: &[u8])
     ensures { guard.new ≡ told_all table.now guard.old outcomes.now }
 {
     for byte in outcomes {
-        let _ = guard.tell(table, *byte);
+        (_, *guard) = guard.tell(table, *byte);
     }
 }
 
@@ -94,7 +94,8 @@ fn read_version(bytes: &[u8], version: Version, table: &[u8]) -> Result<Guard, R
 {
     let end = test_record(bytes, version)?;
     let past = end + version.held;
-    let mut walked = Guard::start(table)?;
+    let (started, mut walked) = Guard::start(table);
+    started?;
     let hits = [1u8; HELD];
     tell_all(&mut walked, table, &hits[version.held..]);
     tell_all(&mut walked, table, &bytes[end..past]);

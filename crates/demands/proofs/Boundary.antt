@@ -9,7 +9,7 @@ use native.Mathlib.Omega.{arith}
 use borrow.Author.Tests.{le-ltb, ltb-false}
 use lib.IntN.{ℤ}
 use lib.ListN.{length}
-use Rattle.std.specs.Prelude.{Result, Ok}
+use Rattle.std.specs.Prelude.{⊤, Result, Ok}
 use Rattle.layout.specs.declared.Refused.{Refused}
 use Rattle.layout.specs.Refusal.{passed, first}
 use Rattle.layout.proofs.Rows.{and_then, FromTo, both_passed as all_passed, passed_first, first_append, first_skip}
@@ -36,7 +36,7 @@ use Rattle.table.specs.Check.{CheckedAs}
 use Rattle.builder.specs.Build.{early_rows, build_rows, BuiltAs}
 use Rattle.builder.proofs.Numbers.{BuildNumber, build_numbers, build_positive}
 use Rattle.guard.specs.declared.Guard.{Guard}
-use Rattle.guard.specs.Guard.{guard_in, StartedAs, AskedAs, tell_rows, ToldAs}
+use Rattle.guard.specs.Guard.{StartedAs, AskedAs, tell_rows, ToldAs}
 use Rattle.guard.specs.Told.{heard}
 use Rattle.guard.specs.Row.{row_start_rows, RowStartedAs, row_ask_rows, RowAskedAs, row_tell_rows, RowToldAs}
 use Rattle.guard.specs.Runs.{RowCall, RowRun, calls_of, OnTable, bytes_told}
@@ -59,7 +59,7 @@ use Rattle.demands.specs.Guarding.{ByKeptFlat}
 use Rattle.demands.specs.Carrying.{Event, Through, told_in}
 use Rattle.demands.proofs.Numbers.{WriteNumber, write_numbers, JudgeNumber, judge_numbers, table_numbers, look_numbers, TellNumber, tell_numbers, tell_positive, RowNumber, row_start_numbers, row_ask_numbers, RowTellNumber, row_tell_numbers, row_tell_positive}
 use Rattle.demands.proofs.Answers.{one_size}
-use Rattle.demands.proofs.FlatAnswers.{opens_refuses, set_opens, written_opens, verdict_opens, kept_flat, kept_or_not, lost_flat, built_opens, checked_opens, start_opens, started_opens, ask_opens, tell_opens, answers_flat, refused_flat}
+use Rattle.demands.proofs.FlatAnswers.{opens_refuses, set_opens, written_opens, verdict_opens, kept_flat, kept_or_not, lost_flat, built_opens, checked_opens, start_opens, ask_opens, tell_opens, answers_flat, refused_flat}
 use Rattle.demands.proofs.FlatComparison.{compared_opens, compared_accepted, covers_flat, between_flat}
 use Rattle.demands.proofs.Demand1.{ask_refuses, row_ask_refuses}
 use Rattle.demands.proofs.Demand2.{verdict_kept, verdict_lost, comparison_covers, comparison_between, guard_answers, row_answers}
@@ -107,9 +107,9 @@ pub floe_check_table_refuses : (b : List ℕ) (f : FloeChecked) → FlatAnswer (
 floe_check_table_refuses b f (a, checked, e) =
     rw e (opens_refuses (FromTo 10 12) (table_rows b) (λ n. at_least 10 12 n (omega arith)) (table_numbers b) (checked_opens a) checked.refusal)
 
-pub floe_guard_start_refuses : (b : List ℕ) (f : FloeStarted) → FlatAnswer (StartedAs b) flat_started f → RefusesFlat (FromTo 10 12) (first (table_rows b)) f.refused f.at
+pub floe_guard_start_refuses : (b : List ℕ) (f : FloeStarted) → FlatAnswer (λ a. StartedAs b a.0 a.1) flat_started f → RefusesFlat (FromTo 10 12) (first (table_rows b)) f.refused f.at
 floe_guard_start_refuses b f (a, started, e) =
-    rw e (opens_refuses (FromTo 10 12) (table_rows b) (λ n. at_least 10 12 n (omega arith)) (table_numbers b) (started_opens a) started.refusal)
+    rw e (opens_refuses (FromTo 10 12) (table_rows b) (λ n. at_least 10 12 n (omega arith)) (table_numbers b) (start_opens a.0) started.refusal)
 
 pub floe_guard_ask_refuses : (b : List ℕ) (g : Guard) (f : FloeAsked) → FlatAnswer (λ a. AskedAs b g a.0 × (a.1 ≡ g)) flat_asked f → RefusesFlat (FromTo 10 12) (first (look_rows b g.state)) f.refused f.at
 floe_guard_ask_refuses b g f (a, (asked, same), e) =
@@ -173,9 +173,9 @@ floe_guard_ask_refused b g f (a, (asked, same), e) = rw e (refused_flat a.0 (λ 
 pub floe_row_ask_refused : (row : List Guard) (job : ℕ) (b : List ℕ) (f : FloeRowAsked) → FlatAnswer (RowAskedAs row job b) flat_ask f → (f.answer ≡ 3) ↔ (f.refused ≡ 0 → ⊥)
 floe_row_ask_refused row job b f (a, asked, e) = rw e (refused_flat a (λ n v q. row_positive n ((row_ask_refuses row job b a asked).numbers n v q)))
 
-pub floe_guard_ask_answers : (set b : List ℕ) → TableOf set b → (s : Result Guard Refused) → StartedAs b s → (events : List Event) (g : Guard) → Through set b (guard_in s) events g → (f : FloeAsked) → FlatAnswer (λ a. AskedAs b g a.0 × (a.1 ≡ g)) flat_asked f
+pub floe_guard_ask_answers : (set b : List ℕ) → TableOf set b → (began : Result ⊤ Refused) (s : Guard) → StartedAs b began s → (events : List Event) (g : Guard) → Through set b s events g → (f : FloeAsked) → FlatAnswer (λ a. AskedAs b g a.0 × (a.1 ≡ g)) flat_asked f
     → ByKeptFlat (set_of set) (heard (told_in events)) f.answer
-floe_guard_ask_answers set b t s started events g run f (a, (asked, same), e) = rw e (answers_flat (set_of set) (heard (told_in events)) a.0 (guard_answers set b t s started events g run a.0 asked))
+floe_guard_ask_answers set b t began s started events g run f (a, (asked, same), e) = rw e (answers_flat (set_of set) (heard (told_in events)) a.0 (guard_answers set b t began s started events g run a.0 asked))
 
 pub floe_row_ask_answers : (set b : List ℕ) → TableOf set b → (row started last : List Guard) (job : ℕ) (calls : List RowCall) → RowStartedAs row job b (Ok tt) started → RowRun started calls last
     → OnTable b (calls_of job calls) → (f : FloeRowAsked) → FlatAnswer (RowAskedAs last job b) flat_ask f → ByKeptFlat (set_of set) (heard (bytes_told (calls_of job calls))) f.answer

@@ -6,7 +6,7 @@ use mathlib.Core.List.{List, [], ◌∷◌, ◌++◌}
 use Prim.Native.Nat.{ℕ, ◌-◌, ◌<◌}
 use native.Mathlib.Omega.{arith}
 use lib.ListN.{length, take, replicate, length-map}
-use Rattle.std.specs.Prelude.{Result, Ok, Err}
+use Rattle.std.specs.Prelude.{⊤, Result, Ok, Err}
 use Rattle.layout.specs.Bytes.{byte_at}
 use Rattle.layout.specs.Refusal.{row, passed, first}
 use Rattle.layout.specs.declared.Refused.{Refused}
@@ -17,24 +17,24 @@ use Rattle.patterns.specs.Outcome.{outcome, outcomes}
 use Rattle.meaning.specs.Longest.{longest}
 use Rattle.table.specs.Rows.{table_rows}
 use Rattle.guard.specs.declared.Guard.{Guard}
-use Rattle.guard.specs.Guard.{fresh, guard_in, StartedAs}
+use Rattle.guard.specs.Guard.{fresh, StartedAs}
 use Rattle.carry.specs.Bytes.{new_version, version_for, many_in, carried, set_in, outcome_bytes, count_in, lost_byte, record_of}
 use Rattle.carry.specs.Rows.{write_rows, version_rows, led_to, leads_nowhere, read_rows}
 use Rattle.carry.specs.Write.{RecordWrittenAs}
-use Rattle.carry.specs.Read.{guard_at, guard_when, ReadBackAs}
+use Rattle.carry.specs.Read.{guard_in, guard_at, guard_when, ReadBackAs}
 use Rattle.carry.proofs.Parts.{outcome_count}
 use Rattle.carry.proofs.Accepted.{accepted_record}
 use Rattle.carry.proofs.RoundTrip.{same_record, one_record}
 use Rattle.carry.proofs.Back.{written_record}
 use Rattle.flat.specs.declared.FloeWritten.{FloeWritten}
 use Rattle.flat.specs.declared.FloeStarted.{FloeStarted}
-use Rattle.flat.specs.Flat.{FlatAnswer, flat_written, flat_started}
+use Rattle.flat.specs.Flat.{FlatAnswer, flat_written, flat_back}
 use Rattle.demands.specs.Refusing.{RefusedBy, Refuses, RefusesFlat}
 use Rattle.demands.specs.TableOf.{TableOf}
 use Rattle.demands.specs.Carrying.{Changed, Event, Through, with_last}
 use Rattle.demands.proofs.Numbers.{CarryWriteNumber, carry_write_numbers, carry_write_positive, CarryReadNumber, carry_read_numbers, carry_read_positive}
 use Rattle.demands.proofs.Refusing.{refuses}
-use Rattle.demands.proofs.FlatAnswers.{opens_refuses, written_opens, started_opens}
+use Rattle.demands.proofs.FlatAnswers.{opens_refuses, written_opens, back_opens}
 use Rattle.demands.proofs.OldRecords.{last_of}
 use Rattle.demands.proofs.Demand2.{change_gives_same}
 
@@ -104,20 +104,20 @@ pub floe_carry_write_refuses : (g : Guard) (set out out' : List ℕ) (f : FloeWr
 floe_carry_write_refuses g set out out' f (a, written, e) =
     rw e (opens_refuses CarryWriteNumber (write_rows longest carried set out) carry_write_positive (carry_write_numbers longest carried set out) (written_opens a) written.answer)
 
-pub floe_carry_read_refuses : (r b : List ℕ) (f : FloeStarted) → FlatAnswer (ReadBackAs longest carried r b) flat_started f → RefusesFlat CarryReadNumber (first (read_rows longest carried (version_for r) (many_in carried r) r b)) f.refused f.at
+pub floe_carry_read_refuses : (r b : List ℕ) (f : FloeStarted) → FlatAnswer (ReadBackAs longest carried r b) flat_back f → RefusesFlat CarryReadNumber (first (read_rows longest carried (version_for r) (many_in carried r) r b)) f.refused f.at
 floe_carry_read_refuses r b f (a, read, e) =
-    rw e (opens_refuses CarryReadNumber (read_rows longest carried (version_for r) (many_in carried r) r b) carry_read_positive (carry_read_numbers longest carried (version_for r) (many_in carried r) r b) (started_opens a) read.refusal)
+    rw e (opens_refuses CarryReadNumber (read_rows longest carried (version_for r) (many_in carried r) r b) carry_read_positive (carry_read_numbers longest carried (version_for r) (many_in carried r) r b) (back_opens a) read.refusal)
 
 -- One change more of a run on the table built from the set, by the exported functions: where the record isn't refused, it is read back, and the guard is the one that was written.
-pub floe_change_gives_same : (set b : List ℕ) → TableOf set b → (s : Result Guard Refused) → StartedAs b s → (events : List Event) (g : Guard) → Through set b (guard_in s) events g
+pub floe_change_gives_same : (set b : List ℕ) → TableOf set b → (began : Result ⊤ Refused) (s : Guard) → StartedAs b began s → (events : List Event) (g : Guard) → Through set b s events g
     → (out out' : List ℕ) (w : FloeWritten) → FlatAnswer (RecordWrittenAs longest carried g set out out') flat_written w → w.refused ≡ 0
-    → (f : FloeStarted) → FlatAnswer (ReadBackAs longest carried (take w.length out') b) flat_started f → (f.refused ≡ 0) × (f.guard ≡ g)
-floe_change_gives_same set b t s started events g run out out' w (a, written, e) taken f (back, read, d) = go a written e
+    → (f : FloeStarted) → FlatAnswer (ReadBackAs longest carried (take w.length out') b) flat_back f → (f.refused ≡ 0) × (f.guard ≡ g)
+floe_change_gives_same set b t began s started events g run out out' w (a, written, e) taken f (back, read, d) = go a written e
   where
     go : (a : Result ℕ Refused) → RecordWrittenAs longest carried g set out out' a → w ≡ flat_written a → (f.refused ≡ 0) × (f.guard ≡ g)
     go (Ok n) written e =
         let changed : Changed set b g back = record { out = out; out' = out'; size = n; written = written; back = subst (λ k. ReadBackAs longest carried (take k out') b back) (ap (λ z. z.length) e) read } in
-        let same = d ∙ ap flat_started (change_gives_same set b t s started events g run back changed) in
+        let same = d ∙ ap flat_back (change_gives_same set b t began s started events g run back changed) in
         (ap (λ z. z.refused) same, ap (λ z. z.guard) same)
     go (Err why) written e =
         let own = carry_write_positive (number_of why) ((carry_write_refuses g set out out' (Err why) written).numbers (number_of why) (beside why) (why, refl, refl)) in

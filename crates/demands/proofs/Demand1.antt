@@ -88,8 +88,8 @@ module _ (widest : ℕ) (set work work' table table' : List ℕ) (r : Result ℕ
 pub check_refuses : (b : List ℕ) (r : Result ℕ Refused) → CheckedAs b r → Refuses (FromTo 10 12) (first (table_rows b)) r
 check_refuses b r checked = refuses (FromTo 10 12) (table_rows b) r (table_numbers b) checked.refusal
 
-pub start_refuses : (b : List ℕ) (r : Result Guard Refused) → StartedAs b r → Refuses (FromTo 10 12) (first (table_rows b)) r
-start_refuses b r started = refuses (FromTo 10 12) (table_rows b) r (table_numbers b) started.refusal
+pub start_refuses : (b : List ℕ) (r : Result ⊤ Refused) (g : Guard) → StartedAs b r g → Refuses (FromTo 10 12) (first (table_rows b)) r
+start_refuses b r g started = refuses (FromTo 10 12) (table_rows b) r (table_numbers b) started.refusal
 
 pub ask_refuses : (b : List ℕ) (g : Guard) (r : Result Answer Refused) → AskedAs b g r → Refuses (FromTo 10 12) (first (look_rows b g.state)) r
 ask_refuses b g r asked = refuses (FromTo 10 12) (look_rows b g.state) r (look_numbers b g.state) asked.refusal

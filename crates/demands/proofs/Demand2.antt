@@ -45,7 +45,7 @@ use Rattle.table.specs.Bytes.{machine_of}
 use Rattle.guard.specs.declared.Guard.{Guard}
 use Rattle.guard.specs.declared.Answer.{Answer}
 use Rattle.guard.specs.declared.Answer.TheVariants as answer
-use Rattle.guard.specs.Guard.{most_told, standing, fresh, guard_in, StartedAs, AskedAs, tell_rows, told_when, ToldAs}
+use Rattle.guard.specs.Guard.{most_told, standing, fresh, StartedAs, AskedAs, tell_rows, told_when, ToldAs}
 use Rattle.guard.specs.Told.{told_all, heard}
 use Rattle.guard.specs.Row.{guard_at, RowStartedAs, RowAskedAs}
 use Rattle.guard.specs.Runs.{RowCall, RowRun, calls_of, OnTable, bytes_told}
@@ -53,7 +53,7 @@ use Rattle.guard.proofs.Walked.{told_then}
 use Rattle.guard.proofs.Alone.{own_ask, started_job}
 use Rattle.carry.specs.Bytes.{old_carried, carried, size_of}
 use Rattle.carry.specs.Rows.{wider}
-use Rattle.carry.specs.Read.{ReadBackAs}
+use Rattle.carry.specs.Read.{guard_in, ReadBackAs}
 use Rattle.flat.specs.declared.FloeAsked.{FloeAsked}
 use Rattle.flat.specs.Flat.{FlatAnswer, flat_asked}
 use Rattle.demands.specs.TableOf.{TableOf}
@@ -162,7 +162,7 @@ pub table_walks_kept : (set b : List ℕ) → TableOf set b → (p : List Bool) 
 table_walks_kept = made_walks_kept
 
 -- A guard that start gave on that table, told any bytes, refused ones too, and through changes of the battery, any number of them and anywhere: "outcomes so far" are those told before a change and after it. (An ask gives the guard back unchanged, so asks may stand between: `AskedAs`.)
-module _ (set b : List ℕ) (t : TableOf set b) (s : Result Guard Refused) (started : StartedAs b s) (events : List Event) (g : Guard) (run : Through set b (guard_in s) events g) where
+module _ (set b : List ℕ) (t : TableOf set b) (began : Result ⊤ Refused) (s : Guard) (started : StartedAs b began s) (events : List Event) (g : Guard) (run : Through set b s events g) where
   abbrev told : List ℕ
   told = told_in events
 
@@ -173,7 +173,7 @@ module _ (set b : List ℕ) (t : TableOf set b) (s : Result Guard Refused) (star
   is_told = through_told set b t fresh (led_from_start set b t []) events g from_fresh
 
   -- It is the guard that was told the same and never switched off.
-  pub as_never_switched_off : g ≡ told_all b (guard_in s) told
+  pub as_never_switched_off : g ≡ told_all b s told
   as_never_switched_off = is_told ∙ ap (λ z. told_all b z told) (sym started.guard)
 
   -- One change more gives back the guard that was written, field for field; and with room for the record there is one.
@@ -188,7 +188,7 @@ module _ (set b : List ℕ) (t : TableOf set b) (s : Result Guard Refused) (star
   guard_answers r asked = answers_by_meaning set b t told r (subst (λ z. AskedAs b z r) is_told asked)
 
   -- While every panic job is met, no limit is broken: if wherever ask said panic the next outcome told was a hit, the outcomes heard are kept and the guard isn't lost. (A byte that is refused isn't an outcome told, and isn't a miss.)
-  pub met_panics_keep : ((before after : List Event) (byte : ℕ) (h : Guard) (r : Result Answer Refused) → events ≡ before ++ (tells byte ∷ after) → Through set b (guard_in s) before h → AskedAs b h r → r ≡ Ok answer.Panic → outcome byte ≡ true)
+  pub met_panics_keep : ((before after : List Event) (byte : ℕ) (h : Guard) (r : Result Answer Refused) → events ≡ before ++ (tells byte ∷ after) → Through set b s before h → AskedAs b h r → r ≡ Ok answer.Panic → outcome byte ≡ true)
       → KeptBy (set_of set) (heard told) × (g.lost ≡ false)
   met_panics_keep met =
       let k = heeded_kept set b t told in_bytes in
@@ -197,7 +197,7 @@ module _ (set b : List ℕ) (t : TableOf set b) (s : Result Guard Refused) (star
       in_bytes : (before after : List ℕ) (byte : ℕ) (r : Result Answer Refused) → told ≡ before ++ (byte ∷ after) → AskedAs b (told_all b fresh before) r → r ≡ Ok answer.Panic → outcome byte ≡ true
       in_bytes before after byte r e asked panic =
           let (es, fs, p, q) = events_cut events before after byte e in
-          let (h, cut) = through_cut set b (guard_in s) es (tells byte ∷ fs) g (subst (λ z. Through set b (guard_in s) z g) p run) in
+          let (h, cut) = through_cut set b s es (tells byte ∷ fs) g (subst (λ z. Through set b s z g) p run) in
           let stood : h ≡ told_all b fresh before = through_told set b t fresh (led_from_start set b t []) es h (subst (λ z. Through set b z es h) started.guard cut) ∙ ap (told_all b fresh) q in
           met es fs byte h r p cut (subst (λ z. AskedAs b z r) (sym stood) asked) panic
 
@@ -253,8 +253,8 @@ module _ (b : List ℕ) where
   pub asked_guard : (g : Guard) (f : FloeAsked) → FlatAnswer (λ a. AskedAs b g a.0 × (a.1 ≡ g)) flat_asked f → f.guard ≡ g
   asked_guard g f (a, (asked, same), e) = ap (λ z. z.guard) e ∙ same
 
-  pub started_guard : (r : Result Guard Refused) → StartedAs b r → (guard_in r).lost ≡ false
-  started_guard r started = ap (λ z. z.lost) started.guard
+  pub started_guard : (r : Result ⊤ Refused) (g : Guard) → StartedAs b r g → g.lost ≡ false
+  started_guard r g started = ap (λ z. z.lost) started.guard
 
 -- The row: a job that was started on that table, any calls on the row after it, of that job only asks and tells on that table, and then an ask. It hears what a single guard hears.
 module _ (set b : List ℕ) (t : TableOf set b) (row started last : List Guard) (job : ℕ) (calls : List RowCall)

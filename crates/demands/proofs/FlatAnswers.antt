@@ -17,7 +17,7 @@ use Rattle.verdict.specs.declared.Loss.{Loss}
 use Rattle.guard.specs.declared.Guard.{Guard}
 use Rattle.guard.specs.declared.Answer.{Answer}
 use Rattle.guard.specs.declared.Answer.TheVariants.{Normal, Panic, Lost}
-use Rattle.flat.specs.Flat.{flat_set, flat_written, flat_verdict, flat_built, flat_checked, flat_start, flat_started, flat_ask, flat_tell, flat_opened, flat_read}
+use Rattle.flat.specs.Flat.{flat_set, flat_written, flat_verdict, flat_built, flat_checked, flat_start, flat_back, flat_ask, flat_tell, flat_opened, flat_read}
 use Rattle.demands.specs.Refusing.{RefusedBy, RefusesFlat}
 use Rattle.demands.specs.Judging.{lost_at}
 use Rattle.demands.specs.Guarding.{ByKept, ByKeptFlat}
@@ -56,9 +56,9 @@ pub start_opens : (a : Result ⊤ Refused) → Opens (says a) (flat_start a).ref
 start_opens (Ok x) = (refl, refl)
 start_opens (Err why) = (refl, refl)
 
-pub started_opens : (a : Result Guard Refused) → Opens (says a) (flat_started a).refused (flat_started a).at
-started_opens (Ok x) = (refl, refl)
-started_opens (Err why) = (refl, refl)
+pub back_opens : (a : Result Guard Refused) → Opens (says a) (flat_back a).refused (flat_back a).at
+back_opens (Ok x) = (refl, refl)
+back_opens (Err why) = (refl, refl)
 
 pub ask_opens : (a : Result Answer Refused) → Opens (says a) (flat_ask a).refused (flat_ask a).at
 ask_opens (Ok Normal) = (refl, refl)

@@ -28,19 +28,19 @@ use Rattle.table.specs.Bytes.{machine_of}
 use Rattle.guard.specs.declared.Guard.{Guard}
 use Rattle.guard.specs.declared.Answer.{Answer}
 use Rattle.guard.specs.declared.Answer.TheVariants.{Normal, Panic, Lost}
-use Rattle.guard.specs.Guard.{fresh, guard_in, StandingBy, AskedAs, after_by, after, tell_rows, told_when, told_of, ToldAs}
+use Rattle.guard.specs.Guard.{fresh, StandingBy, AskedAs, after_by, after, tell_rows, told_when, told_of, ToldAs}
 use Rattle.guard.specs.Told.{told_all}
 use Rattle.guard.proofs.Latest.{latest_whole}
 use Rattle.guard.proofs.OneResult.{ask_one_result}
 use Rattle.carry.specs.Bytes.{old_version, old_carried, carried}
 use Rattle.carry.specs.Rows.{wider, version_rows}
-use Rattle.carry.specs.Read.{ReadBackAs}
+use Rattle.carry.specs.Read.{guard_in, ReadBackAs}
 use Rattle.carry.proofs.Accepted.{not_wider_allowed}
 use Rattle.carry.proofs.OneResult.{read_back_one_result}
 use Rattle.carry.proofs.RoundTrip.{record_too_wide}
 use Rattle.carry.proofs.Back.{read_in_version}
 use Rattle.flat.specs.declared.FloeStarted.{FloeStarted}
-use Rattle.flat.specs.Flat.{FlatAnswer, flat_started}
+use Rattle.flat.specs.Flat.{FlatAnswer, flat_back}
 use Rattle.demands.specs.TableOf.{TableOf}
 use Rattle.demands.specs.Carrying.{Event, Through, told_in, with_last, old_record_of, Alike}
 use Rattle.demands.proofs.Tables.{canonical_machine, made_accepted, made_allowed, made_canonical, made_checked, made_walk, made_walks_kept}
@@ -175,9 +175,9 @@ module _ (set b : List ℕ) (t : TableOf set b) (g : Guard) (led : LedThere set 
 
 -- The boundary.
 pub floe_old_record_gives : (set b : List ℕ) (t : TableOf set b) (g : Guard) → LedThere set b t g → wider (suc old_carried) (set_of set) ≡ false
-    → (f : FloeStarted) → FlatAnswer (ReadBackAs longest carried (old_record_of set g) b) flat_started f → (f.refused ≡ 0) × Alike g f.guard
+    → (f : FloeStarted) → FlatAnswer (ReadBackAs longest carried (old_record_of set g) b) flat_back f → (f.refused ≡ 0) × Alike g f.guard
 floe_old_record_gives set b t g led narrow f (back, read, e) =
-    let same = e ∙ ap flat_started (old_record_gives set b t g led narrow back read) in
+    let same = e ∙ ap flat_back (old_record_gives set b t g led narrow back read) in
     (ap (λ z. z.refused) same, subst (Alike g) (sym (ap (λ z. z.guard) same)) (record { state = refl; lost = refl; count = refl }))
 
 err_not_ok : {A : Type 0} {r : Refused} {x : A} → Err r ≡ Ok x → ⊥

@@ -10,11 +10,11 @@ use Rattle.layout.specs.declared.Refused.{Refused}
 use Rattle.meaning.specs.Longest.{longest}
 use Rattle.guard.specs.declared.Guard.{Guard}
 use Rattle.table.specs.Bytes.{machine_of}
-use Rattle.guard.specs.Guard.{fresh, guard_in, told_of}
+use Rattle.guard.specs.Guard.{fresh, told_of}
 use Rattle.guard.specs.Told.{told_all}
 use Rattle.guard.proofs.Walked.{Led, led_start, led_told}
 use Rattle.carry.specs.Bytes.{new_version, carried, size_of, record_of}
-use Rattle.carry.specs.Read.{ReadBackAs}
+use Rattle.carry.specs.Read.{guard_in, ReadBackAs}
 use Rattle.carry.proofs.RoundTrip.{record_length}
 use Rattle.carry.proofs.Back.{can_be_written, reads_back, carried_back}
 use Rattle.demands.specs.TableOf.{TableOf}

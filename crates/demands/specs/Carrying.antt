@@ -3,10 +3,10 @@ use Rattle.std.specs.Prelude.{◌≡◌, List, [], ◌∷◌, ℕ, ◌-◌, leng
 use Rattle.layout.specs.declared.Refused.{Refused}
 use Rattle.meaning.specs.Longest.{longest}
 use Rattle.guard.specs.declared.Guard.{Guard}
-use Rattle.guard.specs.Guard.{guard_in, ToldAs}
+use Rattle.guard.specs.Guard.{ToldAs}
 use Rattle.carry.specs.Bytes.{old_version, old_carried, carried, record_of}
 use Rattle.carry.specs.Write.{RecordWrittenAs}
-use Rattle.carry.specs.Read.{ReadBackAs}
+use Rattle.carry.specs.Read.{guard_in, ReadBackAs}
 
 -- one change: the guard is written with the set's bytes, to whatever buffer has room, and as many bytes as the writer says are read back
 pub record Changed (set b : List ℕ) (g : Guard) (r : Result Guard Refused) : Type 0 where

@@ -81,16 +81,20 @@ abbrev pub flat_tell : Result ⊤ Refused → FloeDone
 flat_tell (Ok x) = record { refused = 0; at = 0 }
 flat_tell (Err e) = record { refused = number_of e; at = beside e }
 
--- and beside it the guard where it is passed by value; beside a refused start stands one with nothing told
-abbrev pub flat_started : Result Guard Refused → FloeStarted
-flat_started (Ok g) = record { refused = 0; at = 0; guard = g }
-flat_started (Err e) = record { refused = number_of e; at = beside e; guard = fresh }
+-- and beside it the guard where it is passed by value
+abbrev pub flat_started : (Result ⊤ Refused × Guard) → FloeStarted
+flat_started a = let said = flat_start a.0 in record { refused = said.refused; at = said.at; guard = a.1 }
 
 abbrev pub flat_asked : (Result Answer Refused × Guard) → FloeAsked
 flat_asked a = let said = flat_ask a.0 in record { refused = said.refused; at = said.at; answer = said.answer; guard = a.1 }
 
 abbrev pub flat_told : (Result ⊤ Refused × Guard) → FloeTold
 flat_told a = let said = flat_tell a.0 in record { refused = said.refused; at = said.at; guard = a.1 }
+
+-- a guard that was read back; beside a refusal stands one with nothing told
+abbrev pub flat_back : Result Guard Refused → FloeStarted
+flat_back (Ok g) = record { refused = 0; at = 0; guard = g }
+flat_back (Err e) = record { refused = number_of e; at = beside e; guard = fresh }
 
 -- place 0, on a refusal too
 abbrev pub flat_opened : Result ⊤ Refused → FloeLogOpened

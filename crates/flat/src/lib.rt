@@ -3,7 +3,7 @@
 #![tactic(auto)]
 
 ghost use Rattle.std.specs.Prelude.{◌≡◌};
-ghost use Rattle.flat.specs.Flat.{numbers_of, flat_set, flat_written, flat_verdict, flat_comparison, flat_built, flat_checked, flat_start, flat_started, flat_ask, flat_asked, flat_told, flat_opened, flat_log_read};
+ghost use Rattle.flat.specs.Flat.{numbers_of, flat_set, flat_written, flat_verdict, flat_comparison, flat_built, flat_checked, flat_start, flat_started, flat_back, flat_ask, flat_asked, flat_told, flat_opened, flat_log_read};
 
 use compare::{Pattern, RefusedSet};
 use guard::{Answer, Guard};
@@ -269,16 +269,31 @@ impl From<Result<(), Refused>> for FloeDone {
     }
 }
 
-// Beside a refusal stands a guard with nothing told.
-impl From<Result<Guard, Refused>> for FloeStarted {
+// What a start says, and the guard beside it.
+impl From<(Result<(), Refused>, Guard)> for FloeStarted {
     ghost from_gives = { λ started r. r ≡ flat_started started };
 
-    fn from(started: Result<Guard, Refused>) -> FloeStarted {
-        let (refused, at) = numbers(&started);
+    fn from(started: (Result<(), Refused>, Guard)) -> FloeStarted {
+        let (answer, guard) = started;
+        let said = FloeDone::from(answer);
+        FloeStarted {
+            refused: said.refused,
+            at: said.at,
+            guard,
+        }
+    }
+}
+
+// A guard that was read back. Beside a refusal stands one with nothing told.
+impl From<Result<Guard, Refused>> for FloeStarted {
+    ghost from_gives = { λ back r. r ≡ flat_back back };
+
+    fn from(back: Result<Guard, Refused>) -> FloeStarted {
+        let (refused, at) = numbers(&back);
         FloeStarted {
             refused,
             at,
-            guard: started.unwrap_or(Guard::new()),
+            guard: back.unwrap_or(Guard::new()),
         }
     }
 }

@@ -40,7 +40,7 @@ use Rattle.flat.specs.declared.FloeDone.{FloeDone}
 use Rattle.flat.specs.declared.FloeRowAsked.{FloeRowAsked}
 use Rattle.flat.specs.declared.FloeLogOpened.{FloeLogOpened}
 use Rattle.flat.specs.declared.FloeLogRead.{FloeLogRead}
-use Rattle.flat.specs.Flat.{FlatAnswer, flat_set, flat_written, flat_verdict, flat_comparison, flat_built, flat_checked, flat_start, flat_ask, flat_tell, flat_started, flat_asked, flat_told, flat_opened, flat_log_read}
+use Rattle.flat.specs.Flat.{FlatAnswer, flat_set, flat_written, flat_verdict, flat_comparison, flat_built, flat_checked, flat_start, flat_ask, flat_tell, flat_started, flat_back, flat_asked, flat_told, flat_opened, flat_log_read}
 
 one_flat : {A R : Type 0} (promise : A → Type 0) (flat : A → R) → ((a b : A) → promise a → promise b → a ≡ b) → (r t : R) → FlatAnswer promise flat r → FlatAnswer promise flat t → r ≡ t
 one_flat promise flat one r t (a, p, e) (b, q, f) = e ∙ ap flat (one a b p q) ∙ sym f
@@ -81,8 +81,8 @@ floe_build_one_result set work table a b c d r t (x, p, e) (y, q, f) =
 pub floe_check_table_one_result : (b : List ℕ) (r t : FloeChecked) → FlatAnswer (CheckedAs b) flat_checked r → FlatAnswer (CheckedAs b) flat_checked t → r ≡ t
 floe_check_table_one_result b = one_flat (CheckedAs b) flat_checked (checked_one_result b)
 
-pub floe_guard_start_one_result : (b : List ℕ) (r t : FloeStarted) → FlatAnswer (StartedAs b) flat_started r → FlatAnswer (StartedAs b) flat_started t → r ≡ t
-floe_guard_start_one_result b = one_flat (StartedAs b) flat_started (start_one_result b)
+pub floe_guard_start_one_result : (b : List ℕ) (r t : FloeStarted) → FlatAnswer (λ a. StartedAs b a.0 a.1) flat_started r → FlatAnswer (λ a. StartedAs b a.0 a.1) flat_started t → r ≡ t
+floe_guard_start_one_result b = one_flat_beside (StartedAs b) flat_started (start_one_result b)
 
 pub floe_guard_ask_one_result : (b : List ℕ) (g : Guard) (r t : FloeAsked) → FlatAnswer (λ a. AskedAs b g a.0 × (a.1 ≡ g)) flat_asked r → FlatAnswer (λ a. AskedAs b g a.0 × (a.1 ≡ g)) flat_asked t → r ≡ t
 floe_guard_ask_one_result b g = one_flat_beside (λ a h. AskedAs b g a × (h ≡ g)) flat_asked (λ a a' h h' (p, e) (q, f). (ask_one_result b g a a' p q, e ∙ sym f))
@@ -103,8 +103,8 @@ module _ (row : List Guard) (job : ℕ) (b : List ℕ) where
 pub floe_carry_write_one_result : (g : Guard) (set out o o' : List ℕ) (r t : FloeWritten) → FlatAnswer (RecordWrittenAs longest carried g set out o) flat_written r → FlatAnswer (RecordWrittenAs longest carried g set out o') flat_written t → (r ≡ t) × (o ≡ o')
 floe_carry_write_one_result g set out = one_flat_lent (λ a o. RecordWrittenAs longest carried g set out o a) flat_written (λ a b o o'. record_written_one_result longest carried g set out o o' a b)
 
-pub floe_carry_read_one_result : (r b : List ℕ) (a t : FloeStarted) → FlatAnswer (ReadBackAs longest carried r b) flat_started a → FlatAnswer (ReadBackAs longest carried r b) flat_started t → a ≡ t
-floe_carry_read_one_result r b = one_flat (ReadBackAs longest carried r b) flat_started (read_back_one_result longest carried r b)
+pub floe_carry_read_one_result : (r b : List ℕ) (a t : FloeStarted) → FlatAnswer (ReadBackAs longest carried r b) flat_back a → FlatAnswer (ReadBackAs longest carried r b) flat_back t → a ≡ t
+floe_carry_read_one_result r b = one_flat (ReadBackAs longest carried r b) flat_back (read_back_one_result longest carried r b)
 
 pub floe_log_write_one_result : (p out o o' : List ℕ) (r t : FloeWritten) → FlatAnswer (LogWrittenAs p out o) flat_written r → FlatAnswer (LogWrittenAs p out o') flat_written t → (r ≡ t) × (o ≡ o')
 floe_log_write_one_result p out = one_flat_lent (λ a o. LogWrittenAs p out o a) flat_written (λ a b o o'. log_written_one_result p out o o' a b)

@@ -65,7 +65,7 @@ pub fn floe_check_table(table: &[u8]) -> FloeChecked
 }
 
 pub fn floe_guard_start(table: &[u8]) -> FloeStarted
-    ensures { FlatAnswer (StartedAs table.now) flat_started result }
+    ensures { FlatAnswer (λ a. StartedAs table.now a.0 a.1) flat_started result }
 {
     Guard::start(table).into()
 }
@@ -73,7 +73,7 @@ pub fn floe_guard_start(table: &[u8]) -> FloeStarted
 pub fn floe_guard_ask(guard: Guard, table: &[u8]) -> FloeAsked
     ensures { FlatAnswer (λ a. AskedAs table.now guard a.0 × (a.1 ≡ guard)) flat_asked result }
 {
-    let answer = guard.ask(table);
+    let (answer, _) = guard.ask(table);
     // Asking changes nothing. A copy of the whole record would be read across what the caller has just stored.
     let outcomes = guard.outcomes;
     let same = Guard {
@@ -88,7 +88,5 @@ pub fn floe_guard_ask(guard: Guard, table: &[u8]) -> FloeAsked
 pub fn floe_guard_tell(guard: Guard, table: &[u8], outcome: u8) -> FloeTold
     ensures { FlatAnswer (λ a. ToldAs table.now guard outcome a.0 a.1) flat_told result }
 {
-    let mut after = guard;
-    let answer = after.tell(table, outcome);
-    (answer, after).into()
+    guard.tell(table, outcome).into()
 }

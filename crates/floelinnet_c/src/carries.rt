@@ -5,7 +5,7 @@ ghost use Rattle.guard.specs.Guard.{fresh};
 ghost use Rattle.carry.specs.Bytes.{carried};
 ghost use Rattle.carry.specs.Write.{RecordWrittenAs};
 ghost use Rattle.carry.specs.Read.{ReadBackAs};
-ghost use Rattle.flat.specs.Flat.{FlatAnswer, flat_written, flat_started};
+ghost use Rattle.flat.specs.Flat.{FlatAnswer, flat_written, flat_back};
 
 use flat::{FloeStarted, FloeWritten};
 use guard::Guard;
@@ -26,7 +26,7 @@ pub extern "C" fn floe_carry_write(guard: Guard, set: &[u8], out: &mut [u8]) -> 
 
 #[unsafe(no_mangle)]
 pub extern "C" fn floe_carry_read(bytes: &[u8], table: &[u8]) -> FloeStarted
-    ensures { FlatAnswer (ReadBackAs longest carried bytes.now table.now) flat_started result }
+    ensures { FlatAnswer (ReadBackAs longest carried bytes.now table.now) flat_back result }
 {
     floelinnet::floe_carry_read(bytes, table)
 }

@@ -67,7 +67,7 @@ pub extern "C" fn floe_check_table(table: &[u8]) -> FloeChecked
 
 #[unsafe(no_mangle)]
 pub extern "C" fn floe_guard_start(table: &[u8]) -> FloeStarted
-    ensures { FlatAnswer (StartedAs table.now) flat_started result }
+    ensures { FlatAnswer (λ a. StartedAs table.now a.0 a.1) flat_started result }
 {
     floelinnet::floe_guard_start(table)
 }

@@ -19,19 +19,14 @@ use Rattle.table.specs.Rows.{table_rows, look_rows}
 use Rattle.table.proofs.Shared.{first_skip, passed_first, passed_not_refused}
 use Rattle.guard.specs.declared.Guard.{Guard}
 use Rattle.guard.specs.declared.Answer.{Answer}
-use Rattle.guard.specs.Guard.{fresh, StartedAs, AskedAs, after, tell_rows, told_when, ToldAs}
+use Rattle.guard.specs.Guard.{fresh, AskedAs, after, tell_rows, told_when, ToldAs}
 use Rattle.guard.specs.Told.{told_all}
 use Rattle.guard.specs.Row.{most_guards, guard_at, outside, job_row, ChangesOnly, row_started_when, RowStartedAs, RowAskedAs, row_told_when}
-use Rattle.guard.specs.Runs.{Call, starts, asks, tells, with_guard, taken, Run, RowCall, RowStep, RowRun, calls_of, OnTable, bytes_told}
+use Rattle.guard.specs.Runs.{Call, starts, asks, tells, taken, Run, RowCall, RowStep, RowRun, calls_of, OnTable, bytes_told}
 use Rattle.guard.proofs.RowLaws.{others_stay_at_start, others_stay_at_tell}
 
 pub inside_below : (count job : ℕ) → outside count job ≡ false → job < count
 inside_below count job e = dite (dec_lt job count) (λ h. h) (λ h. absurd (true≢false (sym (ap (λ z. z || ltb most_guards count) (le-leb count job (omega arith))) ∙ e)))
-
--- a start, with a guard with nothing told
-own_start : (b : List ℕ) (a : Result ⊤ Refused) → says a ≡ first (table_rows b) → StartedAs b (with_guard fresh a)
-own_start b (Ok x) e = record { refusal = e; guard = refl }
-own_start b (Err why) e = record { refusal = e; guard = refl }
 
 -- a call of any job changes that job's record only
 step_changes : (r : List Guard) (other : ℕ) (c : Call) (r' : List Guard) → RowStep r other c r' → ChangesOnly other r r'
@@ -53,7 +48,7 @@ module _ (job : ℕ) where
     own_step (starts b a) r' s calls h rest =
         let f = first_skip 14 0 (outside (length r) job) (table_rows b) e in
         let g = go a (first (table_rows b)) (s.refusal ∙ f) (s.row ∙ ap (λ t. row_started_when t r job) f) in
-        (fresh, own_start b a (s.refusal ∙ f), subst (λ z. Run z calls h) g rest)
+        (fresh, record { refusal = s.refusal ∙ f; guard = refl }, subst (λ z. Run z calls h) g rest)
       where
         go : (a : Result ⊤ Refused) (t : Tested) → says a ≡ t → r' ≡ row_started_when t r job → guard_at r' job ≡ taken a fresh (guard_at r job)
         go (Ok x) passed q w = ap (λ z. guard_at z job) w ∙ get_or-set_same r job fresh fresh (inside_below (length r) job e)

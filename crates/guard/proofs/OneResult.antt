@@ -1,5 +1,5 @@
 -- Any two results that a contract allows are equal, and for a row the rows then: an answer is known from what it says, the answer of an ask also from how the guard stands, and the guard and the row are functions of what the rows say. Assumes nothing.
-use mathlib.Core.Path.{◌≡◌, refl, sym, ap, subst, ◌∙◌}
+use mathlib.Core.Path.{◌≡◌, refl, sym, subst, ◌∙◌}
 use mathlib.Core.Option.{Option, none, some}
 use mathlib.Core.Bool.{cond}
 use mathlib.Core.List.{List}
@@ -11,7 +11,7 @@ use Rattle.layout.proofs.Refusals.{same_answer}
 use Rattle.guard.specs.declared.Guard.{Guard}
 use Rattle.guard.specs.declared.Answer.{Answer}
 use Rattle.guard.specs.declared.Answer.TheVariants.{Normal, Panic, Lost}
-use Rattle.guard.specs.Guard.{guard_in, StartedAs, StandingBy, AskedAs, ToldAs}
+use Rattle.guard.specs.Guard.{StartedAs, StandingBy, AskedAs, ToldAs}
 use Rattle.guard.specs.Row.{guard_at, RowStartedAs, RowAskedAs, RowToldAs}
 
 -- the answer for a guard and where a miss leads from its state
@@ -36,9 +36,8 @@ pub same_done : (a a' : Result ⊤ Refused) → says a ≡ says a' → a ≡ a'
 same_done a a' e = same_answer a a' e (λ x y p q. refl)
 
 module _ (b : List ℕ) where
-  pub start_one_result : (r r' : Result Guard Refused) → StartedAs b r → StartedAs b r' → r ≡ r'
-  start_one_result r r' p q =
-      same_answer r r' (p.refusal ∙ sym q.refusal) (λ g h e f. sym (ap guard_in e) ∙ p.guard ∙ sym q.guard ∙ ap guard_in f)
+  pub start_one_result : (r r' : Result ⊤ Refused) (g g' : Guard) → StartedAs b r g → StartedAs b r' g' → (r ≡ r') × (g ≡ g')
+  start_one_result r r' g g' p q = (same_done r r' (p.refusal ∙ sym q.refusal), p.guard ∙ sym q.guard)
 
   pub ask_one_result : (g : Guard) (r r' : Result Answer Refused) → AskedAs b g r → AskedAs b g r' → r ≡ r'
   ask_one_result g r r' p q = same_ask _ g r r' (p.refusal ∙ sym q.refusal) p.answer q.answer

@@ -26,15 +26,10 @@ standing s os n = record { state = s; lost = false; outcomes = os; count = n }
 abbrev pub fresh : Guard
 fresh = standing 0 (replicate held true) 0
 
--- the guard of a start, one with nothing told where it is refused
-abbrev pub guard_in : Result Guard Refused → Guard
-guard_in (Ok g) = g
-guard_in (Err r) = fresh
-
 -- RULES, What each entry tests, start: "as the table check, the whole table". The guard is the same, refused or not.
-pub record StartedAs (b : List ℕ) (r : Result Guard Refused) : Type 0 where
+pub record StartedAs (b : List ℕ) (r : Result ⊤ Refused) (g : Guard) : Type 0 where
   pub refusal : says r ≡ first (table_rows b)
-  pub guard : guard_in r ≡ fresh
+  pub guard : g ≡ fresh
 
 -- RULES, The guard: "Ask, before a job, answers lost if the guard is lost, else panic if its state allows no miss, else normal. It changes nothing." What an answer that isn't a refusal says of a guard, by where a miss leads from its state.
 abbrev pub StandingBy : Option ℕ → Guard → Result Answer Refused → Type 0

@@ -12,11 +12,6 @@ pub data Call : Type 0 where
   asks : List ℕ → Result Answer Refused → Call
   tells : List ℕ → (byte : ℕ) → Result ⊤ Refused → Call
 
--- the answer of a start with the guard that it gives
-abbrev pub with_guard : Guard → Result ⊤ Refused → Result Guard Refused
-with_guard g (Ok x) = Ok g
-with_guard g (Err r) = Err r
-
 abbrev pub taken : Result ⊤ Refused → (started old : Guard) → Guard
 taken (Ok x) started old = started
 taken (Err r) started old = old
@@ -24,7 +19,7 @@ taken (Err r) started old = old
 -- from guard g through the calls to guard h, each answered as its promise allows
 abbrev pub Run : Guard → List Call → Guard → Type 0
 Run g [] h = h ≡ g
-Run g (starts b a ∷ calls) h = (s : Guard) × StartedAs b (with_guard s a) × Run (taken a s g) calls h
+Run g (starts b a ∷ calls) h = (s : Guard) × StartedAs b a s × Run (taken a s g) calls h
 Run g (asks b a ∷ calls) h = AskedAs b g a × Run g calls h
 Run g (tells b byte a ∷ calls) h = (s : Guard) × ToldAs b g byte a s × Run s calls h
 

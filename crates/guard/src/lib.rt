@@ -18,7 +18,7 @@ pub const HELD: usize = 15;
 // The largest count of outcomes told.
 const MOST_TOLD: u64 = 18446744073709551615;
 
-// A guard's outcomes are the last ones told, oldest first, hits where fewer were told; the count is of all of them.
+// A guard goes in by value and comes back beside the answer. Its outcomes are the last ones told, oldest first, hits where fewer were told; the count is of all of them.
 #[repr(C)]
 #[derive(Clone, Copy, Debug, PartialEq, Eq)]
 pub struct Guard {
@@ -63,12 +63,14 @@ impl Guard {
         }
     }
 
-    // A guard with nothing told.
-    pub fn start(table: &[u8]) -> Result<Guard, Refused>
-        ensures { StartedAs table.now result }
+    // A guard with nothing told, beside whether the bytes are a table.
+    pub fn start(table: &[u8]) -> (Result<(), Refused>, Guard)
+        ensures { StartedAs table.now result.0 result.1 }
     {
-        table::check_table(table)?;
-        Ok(Guard::new())
+        match table::check_table(table) {
+            Ok(_) => (Ok(()), Guard::new()),
+            Err(refused) => (Err(refused), Guard::new()),
+        }
     }
 
     // What the moves of its state let a guard answer.
@@ -125,16 +127,16 @@ impl Guard {
         }
     }
 
-    // Before a job: whether a miss is still allowed.
-    pub fn ask(&self, table: &[u8]) -> Result<Answer, Refused>
+    // What a guard that is only looked at says before a job.
+    fn says(&self, table: &[u8]) -> Result<Answer, Refused>
         ensures { AskedAs table.now self.now result }
     {
         let moves = table::look(table, self.state)?;
         Ok(self.answer(moves))
     }
 
-    // After a job: its outcome, 1 for a hit and 0 for a miss. A refused tell leaves the guard as it was.
-    pub fn tell(&mut self, table: &[u8], outcome: u8) -> Result<(), Refused>
+    // Tells a guard where it lies. A refused outcome leaves it as it was.
+    fn hear(&mut self, table: &[u8], outcome: u8) -> Result<(), Refused>
         ensures { ToldAs table.now self.old outcome result self.new }
     {
         let moves = table::look(table, self.state)?;
@@ -146,5 +148,21 @@ impl Guard {
         }
         *self = self.moved(moves, outcome != 0);
         Ok(())
+    }
+
+    // Before a job: whether a miss is still allowed; the guard comes back as it was.
+    pub fn ask(self, table: &[u8]) -> (Result<Answer, Refused>, Guard)
+        ensures { AskedAs table.now self result.0 × (result.1 ≡ self) }
+    {
+        (self.says(table), self)
+    }
+
+    // After a job: its outcome, 1 for a hit and 0 for a miss. A refused tell gives the guard back as it was.
+    pub fn tell(self, table: &[u8], outcome: u8) -> (Result<(), Refused>, Guard)
+        ensures { ToldAs table.now self outcome result.0 result.1 }
+    {
+        let mut guard = self;
+        let answer = guard.hear(table, outcome);
+        (answer, guard)
     }
 }

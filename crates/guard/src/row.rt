@@ -35,7 +35,8 @@ impl Guard {
     fn anew(&mut self, table: &[u8]) -> Result<(), Refused>
         ensures { AnewAs table.now self.old result self.new }
     {
-        *self = Guard::start(table)?;
+        table::check_table(table)?;
+        *self = Guard::new();
         Ok(())
     }
 }
@@ -53,7 +54,7 @@ pub fn ask(row: &[Guard], job: usize, table: &[u8]) -> Result<Answer, Refused>
     ensures { RowAskedAs row.now job table.now result }
 {
     test_job(row.len(), job)?;
-    row[job].ask(table)
+    row[job].says(table)
 }
 
 // Tells one job's guard an outcome.
@@ -61,5 +62,5 @@ pub fn tell(row: &mut [Guard], job: usize, table: &[u8], outcome: u8) -> Result<
     ensures { RowToldAs row.old job table.now outcome result row.new }
 {
     test_job(row.len(), job)?;
-    row[job].tell(table, outcome)
+    row[job].hear(table, outcome)
 }

@@ -2,7 +2,6 @@
 // The answer to each is printed in turn, and at the end the guard as it then stands.
 use crate::{answers, tables, text};
 use guard::Guard;
-use layout::Refused;
 
 // The outcome byte that an action tells; no digit stands for 255, so `x` does.
 fn outcome(action: u8) -> u8 {
@@ -13,11 +12,11 @@ fn outcome(action: u8) -> u8 {
     }
 }
 
-// The guard that was made, or where that was refused one with nothing told.
-fn made(rt: &impl Print, guard: Result<Guard, Refused>, word: &str) -> Guard {
-    match guard {
+// The guard that a record gives on a table, or that a refusal leaves.
+pub(crate) fn read_back(rt: &impl Print, record: &[u8], table: &[u8]) -> Guard {
+    match carry::read_record(record, table) {
         Ok(guard) => {
-            text::print(rt, word);
+            text::print(rt, "carried");
             guard
         }
         Err(refused) => {
@@ -25,11 +24,6 @@ fn made(rt: &impl Print, guard: Result<Guard, Refused>, word: &str) -> Guard {
             Guard::new()
         }
     }
-}
-
-// The guard that a record gives on a table, or that a refusal leaves.
-pub(crate) fn read_back(rt: &impl Print, record: &[u8], table: &[u8]) -> Guard {
-    made(rt, carry::read_record(record, table), "carried")
 }
 
 // A guard written with a set and read back on a table. Where writing is refused, it stays.
@@ -44,12 +38,24 @@ fn change(rt: &impl Print, guard: Guard, set: &[u8], table: &[u8]) -> Guard {
     }
 }
 
-fn act(rt: &impl Print, guard: &mut Guard, set: &[u8], table: &[u8], action: u8) {
+fn act(rt: &impl Print, guard: Guard, set: &[u8], table: &[u8], action: u8) -> Guard {
     match action {
-        b's' => *guard = made(rt, Guard::start(table), "started"),
-        b'a' => answers::print_asked(rt, guard.ask(table)),
-        b'b' => *guard = change(rt, *guard, set, table),
-        _ => answers::print_done(rt, guard.tell(table, outcome(action)), "told"),
+        b's' => {
+            let (answer, guard) = Guard::start(table);
+            answers::print_done(rt, answer, "started");
+            guard
+        }
+        b'a' => {
+            let (answer, guard) = guard.ask(table);
+            answers::print_asked(rt, answer);
+            guard
+        }
+        b'b' => change(rt, guard, set, table),
+        _ => {
+            let (answer, guard) = guard.tell(table, outcome(action));
+            answers::print_done(rt, answer, "told");
+            guard
+        }
     }
 }
 
@@ -59,7 +65,7 @@ pub(crate) fn drive(rt: &impl Print, guard: Guard, set: &[u8], table: &[u8], act
         if action == b'-' {
             break;
         }
-        act(rt, &mut guard, set, table, action);
+        guard = act(rt, guard, set, table, action);
         text::print(rt, ", ");
     }
     answers::print_guard(rt, guard);

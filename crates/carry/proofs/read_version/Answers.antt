@@ -7,8 +7,10 @@ use Prim.Native.Nat.{ℕ, ◌-◌, ◌≤◌}
 use native.Mathlib.Omega.{arith}
 use lib.ListN.{length, replicate, length-append, length-replicate}
 use Rattle.std.specs.Prelude.{Result, Ok}
+use Rattle.std.specs.Result.{result_from_control_flow}
 use Rattle.layout.specs.declared.Refused.{Refused}
 use Rattle.layout.specs.Refusal.{passed, first}
+use Rattle.layout.specs.Refused.{says}
 use Rattle.patterns.specs.Outcome.{outcome, outcome_rows}
 use Rattle.patterns.proofs.Outcomes.{outcomes_passed}
 use Rattle.machines.specs.Machine.{walk}
@@ -27,7 +29,7 @@ use Rattle.carry.proofs.Parts.{hits_part, outcome_part, outcome_count, count_par
 use Rattle.carry.proofs.Accepted.{Record, accepted_record}
 use Rattle.carry.proofs.Reading.{back_refused, back_table, back_nowhere, back_led}
 use Rattle.carry.proofs.Walking.{hits_passed, hits_outcomes, walked_lost, walked_kept}
-use Rattle.carry.proofs.read_version.Goals.{After-tell_all-2, In_ok-end, In_ok-walked}
+use Rattle.carry.proofs.read_version.Goals.{After-tell_all-2, In_ok-end, In_ok-started}
 use Rattle.carry.proofs.read_version.Goals as goal
 
 -- the bytes told: hits for the outcomes that a record doesn't have, then its own
@@ -64,8 +66,8 @@ right : (c : In_ok-end) → Record longest c.args.version.number c.args.version.
 right c = accepted_record longest c.args.version.number c.args.version.held c.args.bytes.now (accepted c)
 
 -- past the table's
-checked : (c : In_ok-walked) → first (table_rows c.args.table.now) ≡ passed
-checked c = sym c.in_ok-walked.ensures.refusal
+checked : (c : In_ok-started) → first (table_rows c.args.table.now) ≡ passed
+checked c = sym c.start-started.ensures.refusal ∙ ap says (c.branch-started.ensures ∙ ap result_from_control_flow c.in_ok-started.is)
 
 told : (c : After-tell_all-2) → c.tell_all-2.new.guard ≡ told_all c.args.table.now fresh (bytes_told c.args.version.held c.args.bytes.now)
 told c =
@@ -74,7 +76,7 @@ told c =
     let b = c.args.table.now in
     c.tell_all-2.ensures
     ∙ ap₂ (λ g l. told_all b g l)
-    (c.tell_all.ensures ∙ ap₂ (λ g l. told_all b g l) c.in_ok-walked.ensures.guard (hits_part carried h c.requires))
+    (c.tell_all.ensures ∙ ap₂ (λ g l. told_all b g l) c.start-started.ensures.guard (hits_part carried h c.requires))
     (outcome_part h r c.in_ok-end.end c.in_ok-end.ensures.begins)
     ∙ sym (told_then b fresh (replicate (carried - h) 1) (outcome_bytes h r))
 
@@ -86,14 +88,14 @@ returns-in_err-end c =
     let f = c.from_residual in
     subst (ReadInVersion longest carried v.number v.held r b) (sym (handed_on _ f.result f.ensures.1)) (back_refused longest carried v.number v.held r b _ (sym c.in_err-end.ensures.tested))
 
-pub returns-in_err-walked : goal.returns-in_err-walked
-returns-in_err-walked c =
+pub returns-in_err-started : goal.returns-in_err-started
+returns-in_err-started c =
     let v = c.args.version in
     let r = c.args.bytes.now in
     let b = c.args.table.now in
-    let f = c.from_residual-in_err-walked in
+    let f = c.from_residual-in_err-started in
     subst (ReadInVersion longest carried v.number v.held r b) (sym (handed_on _ f.result f.ensures.1))
-    (back_table longest carried v.number v.held r b (accepted (goal.at.returns-in_err-walked c).In_ok-end) _ (sym c.in_err-walked.ensures.refusal))
+    (back_table longest carried v.number v.held r b (accepted (goal.at.returns-in_err-started c).In_ok-end) _ (sym c.start-started.ensures.refusal ∙ ap says (c.branch-started.ensures ∙ ap result_from_control_flow c.in_err-started.is)))
 
 pub returns-then-walked : goal.returns-then-walked
 returns-then-walked c =
@@ -101,7 +103,7 @@ returns-then-walked c =
     let r = c.args.bytes.now in
     let b = c.args.table.now in
     let at = goal.at.returns-then-walked c in
-    let k = checked at.In_ok-walked in
+    let k = checked at.In_ok-started in
     back_nowhere longest carried v.number v.held r b (accepted at.In_ok-end) k
     (led_nowhere v.number v.held r b c.requires (right at.In_ok-end) k c.tell_all-2.new.guard (told at.After-tell_all-2) c.if-walked.true)
 
@@ -112,7 +114,7 @@ returns c =
     let r = c.args.bytes.now in
     let b = c.args.table.now in
     let at = goal.at.returns c in
-    let k = checked at.In_ok-walked in
+    let k = checked at.In_ok-started in
     let (w, o) = led v.number h r b c.requires (right at.In_ok-end) k c.tell_all-2.new.guard (told at.After-tell_all-2) c.if-walked.false in
     let to = c.tell_all-2.new.guard.state in
     let end = c.in_ok-end.end in

@@ -17,5 +17,5 @@ pub returns : goal.returns
 returns c =
     let a = c.args in
     let (e, l) = c.in_ok-test_job.ensures in
-    tell_inside a.row.now a.job a.table.now e a.outcome c.tell.result c.tell.new.self
-    (subst (λ g. ToldAs a.table.now g a.outcome c.tell.result c.tell.new.self) (get_or_default a.row.now a.job _ fresh l) c.tell.ensures)
+    tell_inside a.row.now a.job a.table.now e a.outcome c.hear.result c.hear.new.self
+    (subst (λ g. ToldAs a.table.now g a.outcome c.hear.result c.hear.new.self) (get_or_default a.row.now a.job _ fresh l) c.hear.ensures)

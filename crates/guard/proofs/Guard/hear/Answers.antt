@@ -1,4 +1,4 @@
--- `Guard::tell`: by what looking at the guard's state gives, and then by 13 and 17. Assumes nothing.
+-- `Guard::hear`: by what looking at the guard's state gives, and then by 13 and 17. Assumes nothing.
 use mathlib.Core.Path.{◌≡◌, sym, ap, ◌∙◌}
 use mathlib.Core.List.{List, [], ◌∷◌}
 use Prim.Native.Nat.{ℕ, ◌≤◌}
@@ -17,7 +17,7 @@ use Rattle.table.proofs.Shared.{first_here, first_skip, refused_before, passed_b
 use Rattle.table.proofs.Answers.{moves_are_next}
 use Rattle.guard.specs.declared.Guard.{Guard}
 use Rattle.guard.specs.Guard.{most_told, after_by, tell_rows, told_when, ToldAs}
-use Rattle.guard.proofs.Guard.tell.Goals as goal
+use Rattle.guard.proofs.Guard.hear.Goals as goal
 
 module _ (b : List ℕ) (g : Guard) (byte : ℕ) where
   -- the guard after a tell is the one that its answer calls for
