@@ -54,8 +54,6 @@ use Rattle.guard.proofs.Alone.{own_ask, started_job}
 use Rattle.carry.specs.Bytes.{old_carried, carried, size_of}
 use Rattle.carry.specs.Rows.{wider}
 use Rattle.carry.specs.Read.{guard_in, ReadBackAs}
-use Rattle.flat.specs.declared.FloeAsked.{FloeAsked}
-use Rattle.flat.specs.Flat.{FlatAnswer, flat_asked}
 use Rattle.demands.specs.TableOf.{TableOf}
 use Rattle.demands.specs.Judging.{lost_at}
 use Rattle.demands.specs.Guarding.{ByKept}
@@ -250,8 +248,8 @@ module _ (b : List ℕ) where
       go passed = rw e (refl, refl, refl)
       go (refused n v) = (e, refl, refl)
 
-  pub asked_guard : (g : Guard) (f : FloeAsked) → FlatAnswer (λ a. AskedAs b g a.0 × (a.1 ≡ g)) flat_asked f → f.guard ≡ g
-  asked_guard g f (a, (asked, same), e) = ap (λ z. z.guard) e ∙ same
+  pub asked_guard : (g : Guard) (r : Result Answer Refused) (g' : Guard) → AskedAs b g r × (g' ≡ g) → g' ≡ g
+  asked_guard g r g' (asked, same) = same
 
   pub started_guard : (r : Result ⊤ Refused) (g : Guard) → StartedAs b r g → g.lost ≡ false
   started_guard r g started = ap (λ z. z.lost) started.guard

@@ -24,11 +24,11 @@ abbrev loss : ℕ → ℕ → ℤ → Loss
 loss job limit first = record { job = job; limit = limit; first = first }
 
 -- kept and lost exclude each other
-same : (s : LimitSet) (p : List Bool) (x y : Option Loss) → Verdict s p (Ok x) → Verdict s p (Ok y) → x ≡ y
-same s p None None v w = refl
-same s p None (Some l) v (w, _) = absurd (kept_not_lost s p l.job l.limit v w)
-same s p (Some k) None (v, _) w = absurd (kept_not_lost s p k.job k.limit w v)
-same s p (Some k) (Some l) v w =
+pub judge_each_one_result : (s : LimitSet) (p : List Bool) (x y : Option Loss) → Verdict s p (Ok x) → Verdict s p (Ok y) → x ≡ y
+judge_each_one_result s p None None v w = refl
+judge_each_one_result s p None (Some l) v (w, _) = absurd (kept_not_lost s p l.job l.limit v w)
+judge_each_one_result s p (Some k) None (v, _) w = absurd (kept_not_lost s p k.job k.limit w v)
+judge_each_one_result s p (Some k) (Some l) v w =
     let job = lost_job s p k.job k.limit l.job l.limit v.0 w.0 in
     let limit = lost_limit s p k.job k.limit l.job l.limit v.0 w.0 in
     let first = lost_from_one s p k.job k.limit k.first l.job l.limit l.first v w in
@@ -36,7 +36,7 @@ same s p (Some k) (Some l) v w =
 
 pub judged_one_result : (rows : List Row) (s : LimitSet) (p : List Bool) (r t : Result (Option Loss) Refused) → JudgedBy rows s p r → JudgedBy rows s p t → r ≡ t
 judged_one_result rows s p r t a b =
-    same_answer r t (a.refusal ∙ sym b.refusal) (λ x y e f. same s p x y (subst (Verdict s p) e a.verdict) (subst (Verdict s p) f b.verdict))
+    same_answer r t (a.refusal ∙ sym b.refusal) (λ x y e f. judge_each_one_result s p x y (subst (Verdict s p) e a.verdict) (subst (Verdict s p) f b.verdict))
 
 pub judge_one_result : (widest : ℕ) (set pattern : List ℕ) (r t : Result (Option Loss) Refused) → JudgedAs widest set pattern r → JudgedAs widest set pattern t → r ≡ t
 judge_one_result widest set pattern = judged_one_result (judge_rows widest set pattern) (set_of set) (outcomes pattern)
