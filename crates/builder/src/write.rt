@@ -23,7 +23,7 @@ fn put_row(out: &mut [u8], at: usize, miss: u16, hit: u16)
     put_two(out, at + 2, hit);
 }
 
-// The length field, the version and the number of states.
+// The length field, the version and the number of states. Each layout stores these two by itself: a call would be no shorter.
 fn put_head(out: &mut [u8], n: usize)
     requires { (7 ≤ length out.old) × (n < 65536) }
     ensures { out.new ≡ head_then n (drop 7 out.old) }

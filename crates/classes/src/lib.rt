@@ -82,7 +82,7 @@ impl<'a> Area<'a> {
         (s * 40503 / 65536) & (self.n - 1)
     }
 
-    // The class below h of signature s, by way of its bucket b.
+    // The class below h of signature s, by way of its bucket b. The links end at 0, and nothing is counted.
     fn find(&self, h: usize, s: usize, b: usize) -> Option<usize>
         requires { Chained self.now.work.now self.now.n h × (h ≤ self.now.n) × (b < self.now.n) × (b ≡ bucket self.now.n s) }
         ensures { Found self.now.work.now self.now.n h s result }
@@ -238,7 +238,7 @@ fn parted(first: u16, entry: u16, other: usize) -> u16
     entry + other as u16
 }
 
-// The classes of the n histories of m outcomes.
+// The classes of the n histories of m outcomes. The area comes as it was lent, a slice, and is an `Area` from here on.
 pub fn classes(set: LimitSet, m: usize, n: usize, work: &mut [u16])
     requires { (n ≡ 2 ^ m) × (m ≤ longest - 1) × SetAllowed longest set × (used n ≤ length work.old) }
     ensures { Classed set m work.new × Within n work.old work.new }

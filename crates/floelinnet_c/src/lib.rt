@@ -1,4 +1,5 @@
 // What C calls: each function of `floelinnet` under its own name and with its clauses. include/floelinnet.h declares them.
+// They are there twice since Rattle can't call what is exported, and the theorems speak of `floelinnet`'s.
 #![tactic(auto)]
 
 ghost use Rattle.std.specs.Prelude.{◌≡◌};

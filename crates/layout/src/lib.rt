@@ -140,7 +140,7 @@ pub fn check_head(bytes: &[u8], least: usize, own: u8) -> Result<(), HeadFault>
     Ok(())
 }
 
-// Writes a number as four bytes, the highest first.
+// Writes a number as four bytes, the highest first. The place stands beside the buffer: who stores knows it, and no next one is answered.
 pub fn put_four(out: &mut [u8], at: usize, n: usize)
     requires { (at + 4 ≤ length out.old) × (n < 4294967296) }
     ensures { out.new ≡ take at out.old ++ four_bytes n ++ drop (at + 4) out.old }

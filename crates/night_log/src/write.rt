@@ -87,7 +87,7 @@ impl<'a> Checked<'a> {
     }
 }
 
-// The length field, the version and the count.
+// The length field, the version and the count. Each layout stores the first two by itself: a call would be no shorter.
 fn put_head(out: &mut [u8], count: usize)
     requires { (count < 4294967296) × (9 ≤ length out.old) }
     ensures { out.new ≡ head_bytes count ++ drop 9 out.old }

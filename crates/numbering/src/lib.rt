@@ -86,8 +86,8 @@ impl<'a> Numbers<'a> {
     }
 }
 
-// Numbers every class that is reached, and returns how many they are. The classes are a queue whose end the loop moves,
-// so its bound is no range's.
+// Numbers every class that is reached, and returns how many they are. The area comes as it was lent. The classes are a
+// queue whose end the loop moves, so its bound is no range's.
 pub fn number(n: usize, work: &mut [u16]) -> usize
     requires { (n ≤ high) × (used n ≤ length work.old) × OfSomeSet n work.old }
     ensures { NumberedFrom n work.old work.new result }

@@ -4,6 +4,7 @@
 // `l OUTCOMES SIZE` writes a log; `o LOG` opens one; `n LOG PLACE` calls its reader there, `a LOG CALLS` so many times from place 0; `v SET LOG` judges it.
 // `t TABLE` checks a table. `g TABLE ACTIONS` drives a guard with nothing told; `h TABLE STATE LOST OUTCOMES COUNT ACTIONS` drives one made by hand.
 // `p SET TABLE ACTIONS` drives one through changes of the battery. `k SET STATE LOST OUTCOMES COUNT SIZE` writes a record; `b RECORD TABLE ACTIONS` reads one back and drives its guard.
+// The handle and the line are handed on side by side: a struct of both would need the handle's type as a parameter.
 #![tactic(auto)]
 
 ghost use Rattle.std.specs.Prelude.{◌≡◌, length};
