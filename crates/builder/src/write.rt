@@ -1,5 +1,5 @@
 // The bytes of the table that a numbered work area holds.
-ghost use Rattle.std.specs.Prelude.{◌≡◌, true, false, ◌++◌, ◌+◌, ◌*◌, ◌≤◌, ◌<◌, length, take, drop};
+ghost use Rattle.std.specs.Prelude.{◌≡◌, true, false, ◌++◌, ◌+◌, ◌≤◌, ◌<◌, length, take, drop};
 ghost use Rattle.numbering.specs.Numbered.{class_of, number_after, move_of, numbered_machine};
 ghost use Rattle.table.specs.Bytes.{pair_bytes, entry_of, row_bytes, head_then, bytes_of, size_of};
 ghost use Rattle.builder.specs.Rows.{Writable};

@@ -4,7 +4,7 @@
 ghost use Rattle.std.specs.Prelude.{◌≡◌, false, ◌+◌, ◌≤◌, ◌<◌, length};
 ghost use Rattle.machines.specs.Numbering.{place};
 ghost use Rattle.classes.specs.Area.{used, high, class_at};
-ghost use Rattle.numbering.specs.Work.{OfSomeSet, Ready, Kept, NumberedFrom};
+ghost use Rattle.numbering.specs.Work.{OfSomeSet, Ready, NumberedFrom};
 ghost use Rattle.numbering.specs.Rows.{Ordered, Visited, possible, Numbering, ReadTo, Cleared};
 
 use classes::MAY_MISS;
