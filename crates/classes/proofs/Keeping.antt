@@ -1,5 +1,5 @@
 -- What a step of the rounds leaves alone: nothing past the four regions, in a round the first region neither. Assumes nothing.
-use mathlib.Core.Path.{refl, ◌∙◌}
+use mathlib.Core.Path.{◌∙◌}
 use mathlib.Core.List.{List}
 use Prim.Native.Nat.{ℕ, ◌≤◌, ◌<◌}
 use native.Mathlib.Omega.{arith}
@@ -9,14 +9,8 @@ use Rattle.classes.specs.Area.{used, Within}
 use Rattle.classes.specs.Chain.{Kept}
 
 module _ (n : ℕ) where
-  pub within_refl : (w : List ℕ) → Within n w w
-  within_refl w = record { length_stays = refl; beyond = λ k l. refl }
-
   pub within_trans : (a b c : List ℕ) → Within n a b → Within n b c → Within n a c
   within_trans a b c p q = record { length_stays = q.length_stays ∙ p.length_stays; beyond = λ k l. q.beyond k l ∙ p.beyond k l }
-
-  pub kept_refl : (w : List ℕ) → Kept n w w
-  kept_refl w = record { within = within_refl w; first = λ k l. refl }
 
   pub kept_trans : (a b c : List ℕ) → Kept n a b → Kept n b c → Kept n a c
   kept_trans a b c p q = record { within = within_trans a b c p.within q.within; first = λ k l. q.first k l ∙ p.first k l }

@@ -73,14 +73,6 @@ no_third true false false p q = absurd (q refl)
 no_third false true true p q = absurd (q refl)
 no_third false false true p q = absurd (p refl)
 
--- no entry is more than a mark
-pub marks_small : (s : LimitSet) (n : ℕ) (w w' : List ℕ) → Started s n w w' → (h : ℕ) → h < n → get_or w' h 0 ≤ high
-marks_small s n w w' B h l = subst (λ z. z ≤ high) (sym (B.entries h l)) (small (may_miss s h))
-  where
-    small : (x : Bool) → cond x high 0 ≤ high
-    small true = omega arith
-    small false = omega arith
-
 module _ (s : LimitSet) (m n : ℕ) (w₀ w w' : List ℕ) (e : n ≡ 2 ^ m) (some_history : 1 ≤ n) (fits : n ≤ high) (B : Started s n w₀ w) (P : Parted n w w') where
   abbrev b : ℕ → Bool
   b h = may_miss s h

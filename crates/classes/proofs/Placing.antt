@@ -13,22 +13,6 @@ use Rattle.classes.proofs.Keeping.{kept_trans, kept_set}
 use Rattle.classes.proofs.Signatures.{sig_first, bucket_lt}
 use Rattle.classes.proofs.Grow.{grouped_joined, grouped_alone, chained_joined, chained_alone}
 
-pub placed_none : (n : ℕ) (w : List ℕ) → ((b : ℕ) → b < n → head n w b ≡ 0) → Placed w n 0
-placed_none n w empty = record {
-  grouped = record {
-    no_greater = λ g l. absurd (omega arith);
-    of_itself = λ g l. absurd (omega arith);
-    alike = λ g l. absurd (omega arith);
-    apart = λ g k l. absurd (omega arith);
-  };
-  chained = record {
-    heads = λ b l. let z = empty b l in record { no_greater = omega arith; class = λ p. absurd (omega arith); of_bucket = λ p. absurd (omega arith) };
-    links = λ g l. absurd (omega arith);
-    head_most = λ g l. absurd (omega arith);
-    link_most = λ g k l. absurd (omega arith);
-  };
-}
-
 module _ (w : List ℕ) (n h s : ℕ) (long : used n ≤ length w) (P : Placed w n h) (hn : h < n) (es : s ≡ sig w n h) where
   abbrev classed : ℕ → List ℕ
   classed r = set w (n + h) r
