@@ -19,7 +19,8 @@ pub const MAY_MISS: u16 = 1 << 15;
 
 // The lent work area of n histories: four regions, n entries each. The first has the classes of the last round, each
 // with the bit of `MAY_MISS`; the second, from n on, has the classes of this round, the third the heads of the
-// buckets, the fourth the links. A head or a link is 0, or one more than a history.
+// buckets, the fourth the links. A head or a link is 0, or one more than a history: an entry has 16
+// bits, and no room for an Option.
 #[derive(Drop)]
 struct Area<'a> {
     work: &'a mut [u16],

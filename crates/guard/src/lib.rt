@@ -18,7 +18,7 @@ pub const HELD: usize = 15;
 // The largest count of outcomes told.
 const MOST_TOLD: u64 = 18446744073709551615;
 
-// A guard goes in by value and comes back beside the answer. Its outcomes are the last ones told, oldest first, hits where fewer were told; the count is of all of them.
+// A guard goes in by value and comes back beside the answer, as RULES has it. Its outcomes are the last ones told, oldest first, hits where fewer were told; the count is of all of them.
 #[repr(C)]
 #[derive(Clone, Copy, Debug, PartialEq, Eq)]
 pub struct Guard {
