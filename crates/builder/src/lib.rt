@@ -24,7 +24,8 @@ fn area_size(widest: u8) -> usize
     4 << (widest - 1)
 }
 
-// Finds the set's states and numbers them in the work area; returns how many they are.
+// Finds the set's states and numbers them in the work area; returns how many they are. The set and the area are as C
+// hands them over, here and below: what is asked of them stays a clause.
 fn number_states(set: LimitSet, m: usize, n: usize, work: &mut [u16]) -> usize
     requires { SetAllowed longest set × LongEnough set m × Histories m n × (used n ≤ length work.old) }
     ensures { Held set n work.old work.new result }
@@ -63,8 +64,8 @@ fn build_table(
     Ok(size)
 }
 
-// For sets whose windows are at most `widest` jobs. The library and the printing program differ in this number, and
-// the work area goes by it.
+// For sets whose windows are at most `widest` jobs, a number as PROMISES names it, so its bound is a clause. The
+// library and the printing program differ in this number, and the work area goes by it.
 pub fn build_within(
     set: &[u8],
     widest: u8,

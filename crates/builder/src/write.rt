@@ -6,7 +6,7 @@ ghost use Rattle.builder.specs.Rows.{Writable};
 
 use classes::MAY_MISS;
 
-// Writes a number as two bytes, the higher first.
+// Writes a number as two bytes, the higher first. The place stands beside the buffer, as in `layout::put_four`.
 fn put_two(out: &mut [u8], at: usize, n: u16)
     requires { at + 2 ≤ length out.old }
     ensures { out.new ≡ take at out.old ++ pair_bytes n (drop (at + 2) out.old) }
@@ -14,7 +14,8 @@ fn put_two(out: &mut [u8], at: usize, n: u16)
     out[at..at + 2].copy_from_slice(&n.to_be_bytes());
 }
 
-// A row: where a miss leads and where a hit does.
+// A row: where a miss leads and where a hit does. Both are numbers, since a table has FF FF for a miss that isn't
+// allowed.
 fn put_row(out: &mut [u8], at: usize, miss: u16, hit: u16)
     requires { at + 4 ≤ length out.old }
     ensures { out.new ≡ take at out.old ++ pair_bytes miss (pair_bytes hit (drop (at + 4) out.old)) }
@@ -23,7 +24,8 @@ fn put_row(out: &mut [u8], at: usize, miss: u16, hit: u16)
     put_two(out, at + 2, hit);
 }
 
-// The length field, the version and the number of states. Each layout stores these two by itself: a call would be no shorter.
+// The length field, the version and the number of states. Each layout stores these two by itself: a call would be no
+// shorter.
 fn put_head(out: &mut [u8], n: usize)
     requires { (7 ≤ length out.old) × (n < 65536) }
     ensures { out.new ≡ head_then n (drop 7 out.old) }
@@ -94,7 +96,7 @@ impl<'a> States<'a> {
     }
 }
 
-// The whole table. What stands past it in the buffer stays.
+// The whole table, of an area as it was lent. What stands past it in the buffer stays.
 pub fn write_table(work: &[u16], n: usize, count: usize, out: &mut [u8])
     requires { Writable n work.now count × (size_of count ≤ length out.old) }
     ensures { out.new ≡ bytes_of (numbered_machine n work.now count) ++ drop (size_of count) out.old }

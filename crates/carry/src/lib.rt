@@ -24,6 +24,7 @@ pub use write::write_record;
 struct Version {
     number: u8,
     held: usize,
+    ghost few: { held ≤ carried },
 }
 
 // The version that is written: as many outcomes as a guard holds.
@@ -43,7 +44,6 @@ const AFTER: usize = 9;
 
 // Tests 18, of a version whose records have so many outcomes, and says where they begin.
 fn test_head(bytes: &[u8], version: Version) -> Result<usize, Refused>
-    requires { version.held ≤ carried }
     ensures tested { says result ≡ first (head_rows (around_set version.held) version.number 18 18 bytes.now) }
     ensures begins { IfOk result (Begins version.held bytes.now) }
 {
@@ -57,7 +57,6 @@ fn test_head(bytes: &[u8], version: Version) -> Result<usize, Refused>
 // Tests 18, 1 to 7, 21, 20, 13 and 19, and says where the outcomes begin. They and a job more fill a window of as many
 // jobs, so a set is too wide for them where it isn't taken with that as the longest window.
 fn test_record(bytes: &[u8], version: Version) -> Result<usize, Refused>
-    requires { version.held ≤ carried }
     ensures tested { says result ≡ first (version_rows longest version.number version.held bytes.now) }
     ensures begins { IfOk result (Begins version.held bytes.now) }
 {
@@ -89,7 +88,6 @@ fn tell_all(guard: &mut Guard, table: &[u8], outcomes: &[u8])
 // The guard that a record has, in the state where its outcomes lead on a table: a start and a step for each outcome that
 // a guard holds. Those that the record doesn't have are hits.
 fn read_version(bytes: &[u8], version: Version, table: &[u8]) -> Result<Guard, Refused>
-    requires { version.held ≤ carried }
     ensures { ReadInVersion longest carried version.number version.held bytes.now table.now result }
 {
     let end = test_record(bytes, version)?;

@@ -16,8 +16,9 @@ const TAIL: usize = HELD + AFTER;
 // All that stands around the set's bytes.
 const AROUND: usize = 5 + TAIL;
 
-// The length field, the version and the set's bytes. Those are stored one by one: `copy_from_slice` would call `memmove`,
-// and of the C library the archive calls `memset` alone.
+// The length field, the version and the set's bytes. Those are stored one by one: `copy_from_slice` would call
+// `memmove`, and of the C library the archive calls `memset` alone. Each layout stores its head by itself: a call would
+// be no shorter.
 fn put_set(set: &[u8], out: &mut [u8])
     requires { (length set.now < 256) × (5 + length set.now ≤ length out.old) }
     ensures { out.new ≡ head_bytes new_version carried set.now ++ drop (5 + length set.now) out.old }
@@ -29,7 +30,7 @@ fn put_set(set: &[u8], out: &mut [u8])
     }
 }
 
-// The outcomes, one byte each.
+// The outcomes, one byte each. The place stands beside the buffer, here and below, as in `layout::put_four`.
 fn put_outcomes(out: &mut [u8], at: usize, outcomes: [bool; HELD])
     requires { at + carried ≤ length out.old }
     ensures { out.new ≡ take at out.old ++ map bit outcomes ++ drop (at + carried) out.old }

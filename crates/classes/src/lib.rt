@@ -17,10 +17,10 @@ use meaning::{Limit, LimitSet};
 // Set in an entry of the first region where a miss may follow.
 pub const MAY_MISS: u16 = 1 << 15;
 
-// The lent work area of n histories: four regions, n entries each. The first has the classes of the last round, each
-// with the bit of `MAY_MISS`; the second, from n on, has the classes of this round, the third the heads of the
-// buckets, the fourth the links. A head or a link is 0, or one more than a history: an entry has 16
-// bits, and no room for an Option.
+// The lent work area of n histories: four regions, n entries each, since C lends one array of numbers and there is no
+// heap. The first has the classes of the last round, each with the bit of `MAY_MISS`; the second, from n on, has the
+// classes of this round, the third the heads of the buckets, the fourth the links. A head or a link is 0, or one more
+// than a history: an entry has 16 bits, and no room for an Option.
 #[derive(Drop)]
 struct Area<'a> {
     work: &'a mut [u16],
@@ -183,7 +183,8 @@ impl<'a> Area<'a> {
         }
     }
 
-    // Limit by limit: asked history by history, the set would be copied for each.
+    // Limit by limit: asked history by history, the set would be copied for each. That it is allowed stays a clause,
+    // here and below: a set is C's record.
     fn start(&mut self, set: LimitSet)
         requires { SetAllowed longest set }
         ensures { Stores (Started set) self.old self.new }

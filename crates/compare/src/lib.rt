@@ -59,6 +59,7 @@ struct Pair {
 }
 
 impl Pair {
+    // Of two sets as `sets` reads them. That they are allowed stays a clause: a set is C's record.
     fn of(first: LimitSet, second: LimitSet) -> Pair
         requires { SetAllowed longest first × SetAllowed longest second }
         ensures { (result.first ≡ first) × (result.second ≡ second) }

@@ -1,6 +1,6 @@
-// Each answer of the library as a flat record, for C and Rust: what the functions of `floelinnet` return, which C calls through `floelinnet_c`.
-// Every record begins with the number of the refusal, 0 for none, and what the rules return beside it. Answers are numbers here, and
-// some records differ in a name alone, since C has them so.
+// Each answer of the library as a flat record, for C and Rust: what the functions of `floelinnet` return, which C calls
+// through `floelinnet_c`. Every record begins with the number of the refusal, 0 for none, and what the rules return
+// beside it. Answers are numbers here, and some records differ in a name alone, since C has them so.
 #![tactic(auto)]
 
 ghost use Rattle.std.specs.Prelude.{◌≡◌};

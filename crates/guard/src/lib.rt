@@ -18,7 +18,8 @@ pub const HELD: usize = 15;
 // The largest count of outcomes told.
 const MOST_TOLD: u64 = 18446744073709551615;
 
-// A guard goes in by value and comes back beside the answer, as RULES has it. Its outcomes are the last ones told, oldest first, hits where fewer were told; the count is of all of them.
+// A guard goes in by value and comes back beside the answer, as RULES has it. Its outcomes are the last ones told,
+// oldest first, hits where fewer were told; the count is of all of them.
 #[repr(C)]
 #[derive(Clone, Copy, Debug, PartialEq, Eq)]
 pub struct Guard {
@@ -86,7 +87,8 @@ impl Guard {
         }
     }
 
-    // The guard that goes to a state with an outcome told.
+    // The guard that goes to a state with an outcome told. That one more can be counted stays a clause, here and below:
+    // a guard is C's record, and may hold any count.
     fn to(&self, state: u16, hit: bool) -> Guard
         requires { self.now.count < most_told }
         ensures { result ≡ standing state (latest self.now.outcomes (hit ∷ [])) (self.now.count + 1) }
@@ -99,7 +101,8 @@ impl Guard {
         }
     }
 
-    // The guard lost where it stands, with an outcome counted.
+    // The guard lost where it stands, with an outcome counted. Field by field, since a copy of the whole takes the
+    // bytes between the fields along.
     fn to_lost(&self) -> Guard
         requires { self.now.count < most_told }
         ensures { result ≡ lost_in self.now.state self.now.outcomes (self.now.count + 1) }

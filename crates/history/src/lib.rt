@@ -1,7 +1,8 @@
-// The history machine of a set: its state is the last outcomes in a number, the newest in the low bit.
-// A hit is always possible; whether a miss is, this crate says from the history alone, limit by limit.
-// How long a history has to be, `reach` says for a limit and `length_for` for a set, and how far back the earliest window begins that a miss breaks, `broken_reach`.
-// C hands over limits and sets as they are, so that their numbers are allowed is asked for in the contracts and is no part of the types.
+// The history machine of a set: its state is the last outcomes in a number, the newest in the low bit. A hit is always
+// possible; whether a miss is, this crate says from the history alone, limit by limit. How long a history has to be,
+// `reach` says for a limit and `length_for` for a set, and how far back the earliest window begins that a miss breaks,
+// `broken_reach`. C hands over limits and sets as they are, so that their numbers are allowed is asked for in the
+// contracts and is no part of the types.
 #![tactic(auto)]
 
 ghost use Rattle.std.specs.Prelude.{◌≡◌, true, false, cond, ℕ, ◌+◌, ◌-◌, ◌%◌, ◌^◌, ◌≤◌, ◌<◌, leb};
@@ -98,7 +99,8 @@ pub fn limit_may_miss(limit: Limit, history: u16) -> bool
     }
 }
 
-// The lowest-numbered limit under which a miss can't follow, where there is one. Inlined it would copy the set at each call.
+// The lowest-numbered limit under which a miss can't follow, where there is one. Inlined it would copy the set at each
+// call.
 #[inline(never)]
 pub fn blocking_limit(set: LimitSet, history: u16) -> Option<usize>
     requires { SetAllowed longest set }

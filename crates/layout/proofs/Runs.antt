@@ -36,12 +36,6 @@ put_then d vs ws at k l h e =
     put_next d (take at d ++ vs) ws (at + k) l (length-append (take at d) vs ∙ ap₂ (λ a b. a + b) (length-take-le at d h) e)
     ∙ ap (λ z. z ++ drop (at + k + l) d) (append_assoc (take at d) vs ws)
 
--- a number of four bytes, the version v and then s, at the start of a buffer
-pub put_after_head : (d four s : List ℕ) (m v n : ℕ) → 5 ≤ length d → four ≡ take 0 d ++ four_bytes m ++ drop 4 d
-    → take 5 (set four 4 v) ++ s ++ drop (5 + n) (set four 4 v) ≡ four_bytes m ++ (v ∷ s) ++ drop (5 + n) d
-put_after_head d four s m v n h e =
-    ap (λ z. take 5 (set z 4 v) ++ s ++ drop (5 + n) (set z 4 v)) (e ∙ ap (λ z. four_bytes m ++ z) (drop-cons d 4 0 (omega arith))) ∙ put_next d (four_bytes m ++ v ∷ []) s 5 n refl
-
 -- the first i bytes of s stand in a buffer d from a place on
 pub record Pasted (d : List ℕ) (at : ℕ) (s : List ℕ) (i : ℕ) (out : List ℕ) : Type 0 where
   pub same_length : length out ≡ length d

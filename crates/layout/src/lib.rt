@@ -1,5 +1,5 @@
-// What every layout has in common: bytes as numbers, and the head that opens it; and why an entry refuses.
-// specs/ have the rows of refusals, of which the first that holds decides, the number of each, and what a writer promises.
+// What every layout has in common: bytes as numbers, and the head that opens it; and why an entry refuses. specs/ have
+// the rows of refusals, of which the first that holds decides, the number of each, and what a writer promises.
 #![tactic(auto)]
 
 ghost use Rattle.std.specs.Prelude.{◌≡◌, ℕ, ◌++◌, ◌+◌, ◌≤◌, ◌<◌, length, take, drop};
@@ -105,7 +105,8 @@ pub fn four_at(bytes: &[u8], at: usize) -> usize
     u32::from_be_bytes([bytes[at], bytes[at + 1], bytes[at + 2], bytes[at + 3]]) as usize
 }
 
-// The number that eight bytes write, the highest first.
+// The number that eight bytes write, the highest first: two numbers of four, which is shorter than a list of eight
+// places.
 pub fn eight_at(bytes: &[u8], at: usize) -> u64
     requires { at + 8 ≤ length bytes.now }
     ensures { result ≡ eight_at bytes.now at }
@@ -140,7 +141,8 @@ pub fn check_head(bytes: &[u8], least: usize, own: u8) -> Result<(), HeadFault>
     Ok(())
 }
 
-// Writes a number as four bytes, the highest first. The place stands beside the buffer: who stores knows it, and no next one is answered.
+// Writes a number as four bytes, the highest first. The place stands beside the buffer: who stores knows it, and no
+// next one is answered.
 pub fn put_four(out: &mut [u8], at: usize, n: usize)
     requires { (at + 4 ≤ length out.old) × (n < 4294967296) }
     ensures { out.new ≡ take at out.old ++ four_bytes n ++ drop (at + 4) out.old }
@@ -148,11 +150,11 @@ pub fn put_four(out: &mut [u8], at: usize, n: usize)
     out[at..at + 4].copy_from_slice(&(n as u32).to_be_bytes());
 }
 
-// Writes a number as eight bytes, the highest first.
+// Writes a number as eight bytes, the highest first. It differs from `put_four`, and from what `builder` stores as two,
+// in the number's width; each is one call of the library, with its own definition.
 pub fn put_eight(out: &mut [u8], at: usize, n: u64)
     requires { at + 8 ≤ length out.old }
     ensures { out.new ≡ take at out.old ++ eight_bytes n ++ drop (at + 8) out.old }
 {
-    put_four(out, at, (n / 4294967296) as usize);
-    put_four(out, at + 4, (n % 4294967296) as usize);
+    out[at..at + 8].copy_from_slice(&n.to_be_bytes());
 }

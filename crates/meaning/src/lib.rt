@@ -38,7 +38,7 @@ impl TryFrom<u8> for Kind {
     }
 }
 
-// One limit as its three bytes have it.
+// One limit as its three bytes have it, and as C sees it: so its kind is a byte.
 #[repr(C)]
 #[derive(Clone, Copy, Debug, Default, PartialEq, Eq)]
 pub struct Limit {
@@ -48,7 +48,8 @@ pub struct Limit {
 }
 
 impl Limit {
-    // The kind by which the limit goes. A kind byte above 3 is refused where sets are read and written, and never comes here.
+    // The kind by which the limit goes. A kind byte above 3 is refused where sets are read and written, and never comes
+    // here.
     pub fn rule_kind(self) -> Kind
         ensures { rule_of self ≡ rule_with result self.x self.k }
     {
@@ -56,7 +57,8 @@ impl Limit {
     }
 }
 
-// RULES, A set in memory. The places from the count on hold zeros in a set that was read.
+// RULES, A set in memory, as C sees it: a count beside eight places. Those from the count on hold zeros in a set that
+// was read.
 #[repr(C)]
 #[derive(Clone, Copy, Debug, Default, PartialEq, Eq)]
 pub struct LimitSet {

@@ -5,7 +5,7 @@ ghost use Rattle.night_log.specs.Reader.{ReaderOpenedAs, NextAs};
 use super::{open_log, read_log};
 use layout::Refused;
 
-// `opened` is what opening answered.
+// `opened` is what opening answered: a reader is opened on any bytes, so it stands beside them.
 #[derive(Clone, Copy)]
 pub struct LogReader<'a> {
     pub log: &'a [u8],

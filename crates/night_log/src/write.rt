@@ -28,7 +28,8 @@ impl<'a> Checked<'a> {
         self.pattern[i]
     }
 
-    // The number that four outcomes write. Sums of weights, and no chain of doublings: the processor adds them side by side.
+    // The number that four outcomes write. Sums of weights, and no chain of doublings: the processor adds them side by
+    // side.
     fn half_byte(self, i: usize) -> u8
         requires { i + 4 ≤ length self.pattern.now }
         ensures { (result ≡ half_from (outcomes self.entry.pattern.now) i) × (result < 16) }

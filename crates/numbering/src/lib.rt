@@ -11,7 +11,8 @@ use classes::MAY_MISS;
 
 // The lent work area of n histories while its classes are numbered, `count` of them so far. The first of its four
 // regions has the classes. The third gets the number of each class, 0 for none or one more than the number; the fourth
-// the classes in the order of their numbers.
+// the classes in the order of their numbers. A struct shared with `classes` would be public, with a contract for each
+// method, for three lines.
 #[derive(Drop)]
 struct Numbers<'a> {
     work: &'a mut [u16],

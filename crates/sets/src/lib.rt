@@ -63,7 +63,8 @@ fn is_idle(limit: Limit) -> bool
     }
 }
 
-// RULES, What each entry tests: "limit after limit, each for 5, 6 and 7; then 21".
+// RULES, What each entry tests: "limit after limit, each for 5, 6 and 7; then 21". That the count is at most 8 stays a
+// clause: a set is C's record, and may hold any count.
 fn test_limits(set: LimitSet, widest: u8) -> Result<(), Refused>
     requires { set.count ≤ 8 }
     ensures { says result ≡ first (test_rows widest set) }

@@ -28,6 +28,7 @@ fn put_head(out: &mut [u8], count: usize)
     out[..6].copy_from_slice(&[0, 0, 0, (2 + 3 * count) as u8, 1, count as u8]);
 }
 
+// The three bytes of a limit. The place stands beside the buffer, as in `layout::put_four`.
 fn put_limit(out: &mut [u8], at: usize, limit: Limit)
     requires { at + 3 ≤ length out.old }
     ensures { out.new ≡ take at out.old ++ bytes_of_limit limit ++ drop (at + 3) out.old }

@@ -1,8 +1,8 @@
-// The fields of a line, and what a field holds: bytes, outcomes or one number. Bytes are written as pairs of hexadecimal
-// digits in capitals, outcomes as one digit each, nothing at all as `-`. A wrong character counts as 0.
-// What a field holds beyond the lent buffer is cut off, and so is half a byte at its end.
-// Fields are numbered from 0 and parted by one space each; one that the line hasn't is empty.
-// Buffers are lent and of fixed sizes, not Vecs: running out of memory would be a failure that the vectors don't have.
+// The fields of a line, and what a field holds: bytes, outcomes or one number. Bytes are written as pairs of
+// hexadecimal digits in capitals, outcomes as one digit each, nothing at all as `-`. A wrong character counts as 0.
+// What a field holds beyond the lent buffer is cut off, and so is half a byte at its end. Fields are numbered from 0
+// and parted by one space each; one that the line hasn't is empty. Buffers are lent and of fixed sizes, not Vecs:
+// running out of memory would be a failure that the vectors don't have.
 ghost use Rattle.std.specs.Prelude.{◌≤◌, ◌<◌};
 
 pub(crate) fn field(line: &[u8], number: usize) -> &[u8] {

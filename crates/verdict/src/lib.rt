@@ -23,8 +23,9 @@ pub struct Loss {
     pub first: i64,
 }
 
-// What every judge does at each outcome: a hit keeps, and a miss is looked at. The history that is left, or the limit that blocks the miss.
-// That the set is allowed stays a clause of each function here: they are public, and take a set as it lies in memory.
+// What every judge does at each outcome: a hit keeps, and a miss is looked at. The history that is left, or the limit
+// that blocks the miss. That the set is allowed stays a clause of the public functions here, which take a set as it
+// lies in memory.
 pub fn take_turn(set: LimitSet, history: u16, hit: bool) -> Result<u16, usize>
     requires { SetAllowed longest set × (history < 2 ^ (longest - 1)) }
     ensures { Turned set history hit result }

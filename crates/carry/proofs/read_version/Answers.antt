@@ -76,7 +76,7 @@ told c =
     let b = c.args.table.now in
     c.tell_all-2.ensures
     ∙ ap₂ (λ g l. told_all b g l)
-    (c.tell_all.ensures ∙ ap₂ (λ g l. told_all b g l) c.start-started.ensures.guard (hits_part carried h c.requires))
+    (c.tell_all.ensures ∙ ap₂ (λ g l. told_all b g l) c.start-started.ensures.guard (hits_part carried h c.args.version.few))
     (outcome_part h r c.in_ok-end.end c.in_ok-end.ensures.begins)
     ∙ sym (told_then b fresh (replicate (carried - h) 1) (outcome_bytes h r))
 
@@ -105,7 +105,7 @@ returns-then-walked c =
     let at = goal.at.returns-then-walked c in
     let k = checked at.In_ok-started in
     back_nowhere longest carried v.number v.held r b (accepted at.In_ok-end) k
-    (led_nowhere v.number v.held r b c.requires (right at.In_ok-end) k c.tell_all-2.new.guard (told at.After-tell_all-2) c.if-walked.true)
+    (led_nowhere v.number v.held r b v.few (right at.In_ok-end) k c.tell_all-2.new.guard (told at.After-tell_all-2) c.if-walked.true)
 
 pub returns : goal.returns
 returns c =
@@ -115,7 +115,7 @@ returns c =
     let b = c.args.table.now in
     let at = goal.at.returns c in
     let k = checked at.In_ok-started in
-    let (w, o) = led v.number h r b c.requires (right at.In_ok-end) k c.tell_all-2.new.guard (told at.After-tell_all-2) c.if-walked.false in
+    let (w, o) = led v.number h r b v.few (right at.In_ok-end) k c.tell_all-2.new.guard (told at.After-tell_all-2) c.if-walked.false in
     let to = c.tell_all-2.new.guard.state in
     let end = c.in_ok-end.end in
     let begins = c.in_ok-end.ensures.begins in
