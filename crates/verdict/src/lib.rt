@@ -5,7 +5,7 @@
 ghost use Rattle.std.specs.Prelude.{◌≡◌, ℕ, Bool, List, ◌-◌, ◌≤◌, ◌<◌, ◌^◌, length, pos, ◌-ℤ◌, Ok};
 ghost use Rattle.meaning.specs.Longest.{longest};
 ghost use Rattle.meaning.specs.Sets.{SetAllowed};
-ghost use Rattle.history.specs.MayMiss.{Blocks};
+ghost use Rattle.history.specs.MayMiss.{Blocks, BlockedBy};
 ghost use Rattle.verdict.specs.Judge.{most_jobs, Verdict, JudgedAs};
 ghost use Rattle.verdict.specs.Turn.{Turned, SaysLost, Gives};
 
@@ -33,6 +33,16 @@ pub fn take_turn(set: LimitSet, history: u16, hit: bool) -> Result<u16, usize>
     turn(&set, history, hit)
 }
 
+// The limit that blocks a miss, of a lent set. Inlined, the judge's loop would hold the set in registers and store it
+// anew at each miss.
+#[inline(never)]
+fn blocked(set: &LimitSet, history: u16) -> Option<usize>
+    requires { SetAllowed longest set.now }
+    ensures { BlockedBy set.now history result }
+{
+    history::blocking_limit(*set, history)
+}
+
 // The same where the set is lent, so that no hit copies it or makes a call.
 #[inline]
 fn turn(set: &LimitSet, history: u16, hit: bool) -> Result<u16, usize>
@@ -40,7 +50,7 @@ fn turn(set: &LimitSet, history: u16, hit: bool) -> Result<u16, usize>
     ensures { Turned set.now history hit result }
 {
     if !hit {
-        if let Some(limit) = history::blocking_limit(*set, history) {
+        if let Some(limit) = blocked(set, history) {
             return Err(limit);
         }
     }
