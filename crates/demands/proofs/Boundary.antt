@@ -111,8 +111,8 @@ pub floe_guard_start_refuses : (b : List ℕ) (f : FloeStarted) → FlatAnswer (
 floe_guard_start_refuses b f (a, started, e) =
     rw e (opens_refuses (FromTo 10 12) (table_rows b) (λ n. at_least 10 12 n (omega arith)) (table_numbers b) (start_opens a.0) started.refusal)
 
-pub floe_guard_ask_refuses : (b : List ℕ) (g : Guard) (f : FloeAsked) → FlatAnswer (λ a. AskedAs b g a.0 × (a.1 ≡ g)) flat_asked f → RefusesFlat (FromTo 10 12) (first (look_rows b g.state)) f.refused f.at
-floe_guard_ask_refuses b g f (a, (asked, same), e) =
+pub floe_guard_ask_refuses : (b : List ℕ) (g : Guard) (f : FloeAsked) → FlatAnswer (λ a. AskedAs b g a.0 a.1) flat_asked f → RefusesFlat (FromTo 10 12) (first (look_rows b g.state)) f.refused f.at
+floe_guard_ask_refuses b g f (a, asked, e) =
     rw e (opens_refuses (FromTo 10 12) (look_rows b g.state) (λ n. at_least 10 12 n (omega arith)) (look_numbers b g.state) (ask_opens a.0) asked.refusal)
 
 pub floe_guard_tell_refuses : (b : List ℕ) (g : Guard) (byte : ℕ) (f : FloeTold) → FlatAnswer (λ a. ToldAs b g byte a.0 a.1) flat_told f → RefusesFlat TellNumber (first (tell_rows b g byte)) f.refused f.at
@@ -167,15 +167,15 @@ module _ (a b : List ℕ) (f : FloeComparison) (flat : FlatAnswer (ComparedAs lo
   floe_compare_between q h = Iff.trans (between_flat a b f flat (packed q) h) (comparison_between a b flat.0 flat.1 q)
 
 -- A guard, alone and in a row: a refusal is answered by 3, whatever the table, and nothing else is.
-pub floe_guard_ask_refused : (b : List ℕ) (g : Guard) (f : FloeAsked) → FlatAnswer (λ a. AskedAs b g a.0 × (a.1 ≡ g)) flat_asked f → (f.answer ≡ 3) ↔ (f.refused ≡ 0 → ⊥)
-floe_guard_ask_refused b g f (a, (asked, same), e) = rw e (refused_flat a.0 (λ n v q. at_least 10 12 n (omega arith) ((ask_refuses b g a.0 asked).numbers n v q)))
+pub floe_guard_ask_refused : (b : List ℕ) (g : Guard) (f : FloeAsked) → FlatAnswer (λ a. AskedAs b g a.0 a.1) flat_asked f → (f.answer ≡ 3) ↔ (f.refused ≡ 0 → ⊥)
+floe_guard_ask_refused b g f (a, asked, e) = rw e (refused_flat a.0 (λ n v q. at_least 10 12 n (omega arith) ((ask_refuses b g a.0 a.1 asked).numbers n v q)))
 
 pub floe_row_ask_refused : (row : List Guard) (job : ℕ) (b : List ℕ) (f : FloeRowAsked) → FlatAnswer (RowAskedAs row job b) flat_ask f → (f.answer ≡ 3) ↔ (f.refused ≡ 0 → ⊥)
 floe_row_ask_refused row job b f (a, asked, e) = rw e (refused_flat a (λ n v q. row_positive n ((row_ask_refuses row job b a asked).numbers n v q)))
 
-pub floe_guard_ask_answers : (set b : List ℕ) → TableOf set b → (began : Result ⊤ Refused) (s : Guard) → StartedAs b began s → (events : List Event) (g : Guard) → Through set b s events g → (f : FloeAsked) → FlatAnswer (λ a. AskedAs b g a.0 × (a.1 ≡ g)) flat_asked f
+pub floe_guard_ask_answers : (set b : List ℕ) → TableOf set b → (began : Result ⊤ Refused) (s : Guard) → StartedAs b began s → (events : List Event) (g : Guard) → Through set b s events g → (f : FloeAsked) → FlatAnswer (λ a. AskedAs b g a.0 a.1) flat_asked f
     → ByKeptFlat (set_of set) (heard (told_in events)) f.answer
-floe_guard_ask_answers set b t began s started events g run f (a, (asked, same), e) = rw e (answers_flat (set_of set) (heard (told_in events)) a.0 (guard_answers set b t began s started events g run a.0 asked))
+floe_guard_ask_answers set b t began s started events g run f (a, asked, e) = rw e (answers_flat (set_of set) (heard (told_in events)) a.0 (guard_answers set b t began s started events g run a.0 a.1 asked))
 
 pub floe_row_ask_answers : (set b : List ℕ) → TableOf set b → (row started last : List Guard) (job : ℕ) (calls : List RowCall) → RowStartedAs row job b (Ok tt) started → RowRun started calls last
     → OnTable b (calls_of job calls) → (f : FloeRowAsked) → FlatAnswer (RowAskedAs last job b) flat_ask f → ByKeptFlat (set_of set) (heard (bytes_told (calls_of job calls))) f.answer

@@ -108,6 +108,11 @@ pub floe_carry_read_refuses : (r b : List ℕ) (f : FloeStarted) → FlatAnswer 
 floe_carry_read_refuses r b f (a, read, e) =
     rw e (opens_refuses CarryReadNumber (read_rows longest carried (version_for r) (many_in carried r) r b) carry_read_positive (carry_read_numbers longest carried (version_for r) (many_in carried r) r b) (back_opens a) read.refusal)
 
+-- A record that is refused gives C a guard with nothing told.
+pub floe_refused_carry_read_gives_fresh : (r b : List ℕ) (f : FloeStarted) → FlatAnswer (ReadBackAs longest carried r b) flat_back f → (f.refused ≡ 0 → ⊥) → f.guard ≡ fresh
+floe_refused_carry_read_gives_fresh r b f (Ok g, read, e) n = absurd (n (ap (λ z. z.refused) e))
+floe_refused_carry_read_gives_fresh r b f (Err why, read, e) n = ap (λ z. z.guard) e
+
 -- One change more of a run on the table built from the set, by the exported functions: where the record isn't refused, it is read back, and the guard is the one that was written.
 pub floe_change_gives_same : (set b : List ℕ) → TableOf set b → (began : Result ⊤ Refused) (s : Guard) → StartedAs b began s → (events : List Event) (g : Guard) → Through set b s events g
     → (out out' : List ℕ) (w : FloeWritten) → FlatAnswer (RecordWrittenAs longest carried g set out out') flat_written w → w.refused ≡ 0

@@ -91,8 +91,8 @@ check_refuses b r checked = refuses (FromTo 10 12) (table_rows b) r (table_numbe
 pub start_refuses : (b : List ℕ) (r : Result ⊤ Refused) (g : Guard) → StartedAs b r g → Refuses (FromTo 10 12) (first (table_rows b)) r
 start_refuses b r g started = refuses (FromTo 10 12) (table_rows b) r (table_numbers b) started.refusal
 
-pub ask_refuses : (b : List ℕ) (g : Guard) (r : Result Answer Refused) → AskedAs b g r → Refuses (FromTo 10 12) (first (look_rows b g.state)) r
-ask_refuses b g r asked = refuses (FromTo 10 12) (look_rows b g.state) r (look_numbers b g.state) asked.refusal
+pub ask_refuses : (b : List ℕ) (g : Guard) (r : Result Answer Refused) (g' : Guard) → AskedAs b g r g' → Refuses (FromTo 10 12) (first (look_rows b g.state)) r
+ask_refuses b g r g' asked = refuses (FromTo 10 12) (look_rows b g.state) r (look_numbers b g.state) asked.refusal
 
 module _ (b : List ℕ) (g : Guard) (byte : ℕ) (r : Result ⊤ Refused) (g' : Guard) (told : ToldAs b g byte r g') where
   pub tell_refuses : Refuses TellNumber (first (tell_rows b g byte)) r

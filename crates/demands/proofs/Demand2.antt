@@ -182,22 +182,22 @@ module _ (set b : List ℕ) (t : TableOf set b) (began : Result ⊤ Refused) (s 
   change_is_possible = rw is_told (change_can_be_had set b t (told_all b fresh told) (led_from_start set b t told))
 
   -- It says panic exactly when the outcomes heard are kept and one more miss would make them not kept; normal where they are kept then too, lost where they aren't kept.
-  pub guard_answers : (r : Result Answer Refused) → AskedAs b g r → ByKept (set_of set) (heard told) r
-  guard_answers r asked = answers_by_meaning set b t told r (subst (λ z. AskedAs b z r) is_told asked)
+  pub guard_answers : (r : Result Answer Refused) (g' : Guard) → AskedAs b g r g' → ByKept (set_of set) (heard told) r
+  guard_answers r g' asked = answers_by_meaning set b t told r g' (subst (λ z. AskedAs b z r g') is_told asked)
 
   -- While every panic job is met, no limit is broken: if wherever ask said panic the next outcome told was a hit, the outcomes heard are kept and the guard isn't lost. (A byte that is refused isn't an outcome told, and isn't a miss.)
-  pub met_panics_keep : ((before after : List Event) (byte : ℕ) (h : Guard) (r : Result Answer Refused) → events ≡ before ++ (tells byte ∷ after) → Through set b s before h → AskedAs b h r → r ≡ Ok answer.Panic → outcome byte ≡ true)
+  pub met_panics_keep : ((before after : List Event) (byte : ℕ) (h : Guard) (r : Result Answer Refused) (h' : Guard) → events ≡ before ++ (tells byte ∷ after) → Through set b s before h → AskedAs b h r h' → r ≡ Ok answer.Panic → outcome byte ≡ true)
       → KeptBy (set_of set) (heard told) × (g.lost ≡ false)
   met_panics_keep met =
       let k = heeded_kept set b t told in_bytes in
       (k, ap (λ z. z.lost) is_told ∙ guard_not_lost set b t told k)
     where
-      in_bytes : (before after : List ℕ) (byte : ℕ) (r : Result Answer Refused) → told ≡ before ++ (byte ∷ after) → AskedAs b (told_all b fresh before) r → r ≡ Ok answer.Panic → outcome byte ≡ true
-      in_bytes before after byte r e asked panic =
+      in_bytes : (before after : List ℕ) (byte : ℕ) (r : Result Answer Refused) (h' : Guard) → told ≡ before ++ (byte ∷ after) → AskedAs b (told_all b fresh before) r h' → r ≡ Ok answer.Panic → outcome byte ≡ true
+      in_bytes before after byte r h' e asked panic =
           let (es, fs, p, q) = events_cut events before after byte e in
           let (h, cut) = through_cut set b s es (tells byte ∷ fs) g (subst (λ z. Through set b s z g) p run) in
           let stood : h ≡ told_all b fresh before = through_told set b t fresh (led_from_start set b t []) es h (subst (λ z. Through set b z es h) started.guard cut) ∙ ap (told_all b fresh) q in
-          met es fs byte h r p cut (subst (λ z. AskedAs b z r) (sym stood) asked) panic
+          met es fs byte h r h' p cut (subst (λ z. AskedAs b z r h') (sym stood) asked) panic
 
   -- It counts the outcomes heard, lost or not, and holds the last of them, one job less than the longest window, unless it is lost.
   pub guard_counts : g.count ≡ length (heard told)
@@ -232,12 +232,12 @@ module _ (set b : List ℕ) (t : TableOf set b) (began : Result ⊤ Refused) (s 
     pub old_record_alike : (later : List Event) (h : Guard) → Through set b (guard_in back) later h → Alike (told_all b g (told_in later)) h
     old_record_alike = old_record_goes_on set b t g led narrow back read
 
-    pub old_record_answers : (later : List Event) (h : Guard) → Through set b (guard_in back) later h → (r : Result Answer Refused) → AskedAs b h r → ByKept (set_of set) (heard (told ++ told_in later)) r
-    old_record_answers later h through r asked =
+    pub old_record_answers : (later : List Event) (h : Guard) → Through set b (guard_in back) later h → (r : Result Answer Refused) (h' : Guard) → AskedAs b h r h' → ByKept (set_of set) (heard (told ++ told_in later)) r
+    old_record_answers later h through r h' asked =
         let never = told_all b fresh (told ++ told_in later) in
         let same : told_all b g (told_in later) ≡ never = ap (λ z. told_all b z (told_in later)) is_told ∙ sym (told_then b fresh told (told_in later)) in
         let alike = subst (λ z. Alike z h) same (old_record_alike later h through) in
-        answers_by_meaning set b t (told ++ told_in later) r (asked_alike b never h alike r asked)
+        answers_by_meaning set b t (told ++ told_in later) r never (asked_alike b never h alike r h' asked)
 
 -- Lost stays lost, on every table: a tell leaves it lost, in its state and with its outcomes, an ask gives it back; only start gives one that isn't, and a record that says so.
 module _ (b : List ℕ) where
@@ -248,8 +248,8 @@ module _ (b : List ℕ) where
       go passed = rw e (refl, refl, refl)
       go (refused n v) = (e, refl, refl)
 
-  pub asked_guard : (g : Guard) (r : Result Answer Refused) (g' : Guard) → AskedAs b g r × (g' ≡ g) → g' ≡ g
-  asked_guard g r g' (asked, same) = same
+  pub asked_guard : (g : Guard) (r : Result Answer Refused) (g' : Guard) → AskedAs b g r g' → g' ≡ g
+  asked_guard g r g' asked = asked.guard
 
   pub started_guard : (r : Result ⊤ Refused) (g : Guard) → StartedAs b r g → g.lost ≡ false
   started_guard r g started = ap (λ z. z.lost) started.guard
@@ -262,7 +262,7 @@ module _ (set b : List ℕ) (t : TableOf set b) (row started last : List Guard) 
       let told = bytes_told (calls_of job calls) in
       let (inside, own) = started_job b row started last job calls begin run on in
       let g = guard_at last job in
-      answers_by_meaning set b t told a (subst (λ z. AskedAs b z a) own (own_ask job last inside b a asked))
+      answers_by_meaning set b t told a g (subst (λ z. AskedAs b z a g) own (own_ask job last inside b a asked))
 
   -- A change of one job's guard gives that guard back, so a row whose guards are carried over one by one is the row that it was.
   pub row_change_gives_same : (r : Result Guard Refused) → Changed set b (guard_at last job) r → (h : Guard) × (r ≡ Ok h) × (set_guard last job h ≡ last)

@@ -56,9 +56,9 @@ module _ (set b : List ℕ) (t : TableOf set b) where
   after_told : (told : List ℕ) → told_all b fresh told ≡ after_all m fresh (heard told)
   after_told = told_all_lem b (made_checked set b t)
 
-  pub answers_by_meaning : (told : List ℕ) (r : Result Answer Refused) → AskedAs b (told_all b fresh told) r → ByKept (set_of set) (heard told) r
-  answers_by_meaning told r asked =
-      let by = answers_by_walk b (made_checked set b t) told r asked in
+  pub answers_by_meaning : (told : List ℕ) (r : Result Answer Refused) (g : Guard) → AskedAs b (told_all b fresh told) r g → ByKept (set_of set) (heard told) r
+  answers_by_meaning told r g asked =
+      let by = answers_by_walk b (made_checked set b t) told r g asked in
       let p = heard told in
       let q = heard told ++ false ∷ [] in
       record {
@@ -74,7 +74,7 @@ module _ (set b : List ℕ) (t : TableOf set b) where
       kept = made_walks_kept set b t
 
   -- an ask there has an answer
-  can_be_asked : (told : List ℕ) → (r : Result Answer Refused) × AskedAs b (told_all b fresh told) r
+  can_be_asked : (told : List ℕ) → (r : Result Answer Refused) × AskedAs b (told_all b fresh told) r (told_all b fresh told)
   can_be_asked told = go g.lost (m.next g.state false) refl refl
     where
       g : Guard
@@ -83,10 +83,10 @@ module _ (set b : List ℕ) (t : TableOf set b) where
       looks : passed ≡ first (look_rows b g.state)
       looks = sym (checked_looks b (made_checked set b t) g.state (subst (λ z. z.state < state_count b) (sym (after_told told)) (never_leaves b (made_checked set b t) (heard told))))
 
-      go : (l : Bool) (miss : Option ℕ) → g.lost ≡ l → m.next g.state false ≡ miss → (r : Result Answer Refused) × AskedAs b g r
-      go true miss e f = (Ok answer.Lost, record { refusal = looks; answer = e })
-      go false none e f = (Ok answer.Panic, record { refusal = looks; answer = (e, f) })
-      go false (some s) e f = (Ok answer.Normal, record { refusal = looks; answer = (e, (s, f)) })
+      go : (l : Bool) (miss : Option ℕ) → g.lost ≡ l → m.next g.state false ≡ miss → (r : Result Answer Refused) × AskedAs b g r g
+      go true miss e f = (Ok answer.Lost, record { refusal = looks; answer = e; guard = refl })
+      go false none e f = (Ok answer.Panic, record { refusal = looks; answer = (e, f); guard = refl })
+      go false (some s) e f = (Ok answer.Normal, record { refusal = looks; answer = (e, (s, f)); guard = refl })
 
   pub kept_not_lost : (told : List ℕ) → KeptBy (set_of set) (heard told) → (told_all b fresh told).lost ≡ false
   kept_not_lost told k =
@@ -103,7 +103,7 @@ module _ (set b : List ℕ) (t : TableOf set b) where
           absurd (true≢false (sym l ∙ sym (ap (λ z. z.lost) (after_told told)) ∙ e))
 
   -- if no miss was told where ask says panic, every outcome heard is kept
-  module _ (told : List ℕ) (met : (before after : List ℕ) (byte : ℕ) (r : Result Answer Refused) → told ≡ before ++ (byte ∷ after) → AskedAs b (told_all b fresh before) r → r ≡ Ok answer.Panic → outcome byte ≡ true) where
+  module _ (told : List ℕ) (met : (before after : List ℕ) (byte : ℕ) (r : Result Answer Refused) (g : Guard) → told ≡ before ++ (byte ∷ after) → AskedAs b (told_all b fresh before) r g → r ≡ Ok answer.Panic → outcome byte ≡ true) where
     keeps_on : (before after : List ℕ) (byte : ℕ) → told ≡ before ++ (byte ∷ after) → KeptBy (set_of set) (heard before) → KeptBy (set_of set) (heard (before ++ byte ∷ []))
     keeps_on before after byte e k =
         ⊎_elim (λ q. subst (KeptBy s) (sym q) k) (λ q. subst (KeptBy s) (sym q) (go (outcome byte) refl)) (heard_next 0 before byte)
@@ -119,8 +119,8 @@ module _ (set b : List ℕ) (t : TableOf set b) where
             by (yes y) = y
             by (no n) =
                 let (r, asked) = can_be_asked before in
-                let p = (answers_by_meaning before r asked).panic.1 (record { kept = k; miss_loses = n }) in
-                absurd (true≢false (sym (met before after byte r e asked p) ∙ f))
+                let p = (answers_by_meaning before r (told_all b fresh before) asked).panic.1 (record { kept = k; miss_loses = n }) in
+                absurd (true≢false (sym (met before after byte r (told_all b fresh before) e asked p) ∙ f))
 
     pub heeded_kept : KeptBy (set_of set) (heard told)
     heeded_kept = go [] told (subst (KeptBy (set_of set)) (sym (heard_none 0)) (kept_by_empty (set_of set) longest (made_allowed set b t))) refl

@@ -95,13 +95,13 @@ module _ (b : List ℕ) where
 
   module _ (g g' : Guard) (a : Alike g g') where
     -- an ask of the one is an ask of the other
-    pub asked_alike : (r : Result Answer Refused) → AskedAs b g' r → AskedAs b g r
-    asked_alike r asked =
-        let q = subst (λ z. AskedAs b z r) (sym (same_but g g' a)) asked in
-        record { refusal = q.refusal; answer = stands_alike _ g g'.outcomes r q.answer }
+    pub asked_alike : (r : Result Answer Refused) (h' : Guard) → AskedAs b g' r h' → AskedAs b g r g
+    asked_alike r h' asked =
+        let q = subst (λ z. AskedAs b z r h') (sym (same_but g g' a)) asked in
+        record { refusal = q.refusal; answer = stands_alike _ g g'.outcomes r q.answer; guard = refl }
 
-    pub alike_asked : (r r' : Result Answer Refused) → AskedAs b g r → AskedAs b g' r' → r ≡ r'
-    alike_asked r r' asked asked' = ask_one_result b g r r' asked (asked_alike r' asked')
+    pub alike_asked : (r r' : Result Answer Refused) (h h' : Guard) → AskedAs b g r h → AskedAs b g' r' h' → r ≡ r'
+    alike_asked r r' h h' asked asked' = (ask_one_result b g r r' h g asked (asked_alike r' h' asked')).0
 
     pub alike_tells : (byte : ℕ) (r r' : Result ⊤ Refused) (h h' : Guard) → ToldAs b g byte r h → ToldAs b g' byte r' h' → (r ≡ r') × Alike h h'
     alike_tells byte r r' h h' told told' =

@@ -23,6 +23,7 @@ use Rattle.sets.proofs.Accepted.{accepted_allowed, accepted_something}
 use Rattle.sets.proofs.Numbers.{seven_rows, nothing_refused}
 use Rattle.table.specs.Bytes.{machine_of, state_count}
 use Rattle.table.proofs.Checked.{checked_well_made}
+use Rattle.guard.specs.declared.Guard.{Guard}
 use Rattle.guard.specs.declared.Answer.{Answer}
 use Rattle.guard.specs.declared.Answer.TheVariants as answer
 use Rattle.guard.specs.Guard.{fresh, AskedAs}
@@ -55,8 +56,8 @@ module _ (set b : List ℕ) (t : TableOf set b) where
       let made = checked_well_made b (made_checked set b t) in
       (s, walk_below m made 0 s (replicate n false) made.start_below w, miss_blocked set b t (replicate n false) s w p.miss_loses)
 
-  pub misses_reach_panic : (n : ℕ) × (n < t.widest) × ((r : Result Answer Refused) → AskedAs b (told_all b fresh (replicate n 0)) r → r ≡ Ok answer.Panic)
+  pub misses_reach_panic : (n : ℕ) × (n < t.widest) × ((r : Result Answer Refused) (g : Guard) → AskedAs b (told_all b fresh (replicate n 0)) r g → r ≡ Ok answer.Panic)
   misses_reach_panic =
       let (n, l, p) = accepted_panics t.widest set (made_taken set b t) in
       let few = t.edition in
-      (n, l, λ r asked. (answers_by_meaning set b t (replicate n 0) r asked).panic.1 (subst (Panic (set_of set)) (sym (heard_same 0 (omega arith) 0 n (omega arith))) p))
+      (n, l, λ r g asked. (answers_by_meaning set b t (replicate n 0) r g asked).panic.1 (subst (Panic (set_of set)) (sym (heard_same 0 (omega arith) 0 n (omega arith))) p))

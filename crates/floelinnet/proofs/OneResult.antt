@@ -84,8 +84,8 @@ floe_check_table_one_result b = one_flat (CheckedAs b) flat_checked (checked_one
 pub floe_guard_start_one_result : (b : List ℕ) (r t : FloeStarted) → FlatAnswer (λ a. StartedAs b a.0 a.1) flat_started r → FlatAnswer (λ a. StartedAs b a.0 a.1) flat_started t → r ≡ t
 floe_guard_start_one_result b = one_flat_beside (StartedAs b) flat_started (start_one_result b)
 
-pub floe_guard_ask_one_result : (b : List ℕ) (g : Guard) (r t : FloeAsked) → FlatAnswer (λ a. AskedAs b g a.0 × (a.1 ≡ g)) flat_asked r → FlatAnswer (λ a. AskedAs b g a.0 × (a.1 ≡ g)) flat_asked t → r ≡ t
-floe_guard_ask_one_result b g = one_flat_beside (λ a h. AskedAs b g a × (h ≡ g)) flat_asked (λ a a' h h' (p, e) (q, f). (ask_one_result b g a a' p q, e ∙ sym f))
+pub floe_guard_ask_one_result : (b : List ℕ) (g : Guard) (r t : FloeAsked) → FlatAnswer (λ a. AskedAs b g a.0 a.1) flat_asked r → FlatAnswer (λ a. AskedAs b g a.0 a.1) flat_asked t → r ≡ t
+floe_guard_ask_one_result b g = one_flat_beside (AskedAs b g) flat_asked (ask_one_result b g)
 
 pub floe_guard_tell_one_result : (b : List ℕ) (g : Guard) (byte : ℕ) (r t : FloeTold) → FlatAnswer (λ a. ToldAs b g byte a.0 a.1) flat_told r → FlatAnswer (λ a. ToldAs b g byte a.0 a.1) flat_told t → r ≡ t
 floe_guard_tell_one_result b g byte = one_flat_beside (ToldAs b g byte) flat_told (tell_one_result b g byte)

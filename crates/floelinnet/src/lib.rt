@@ -71,7 +71,7 @@ pub fn floe_guard_start(table: &[u8]) -> FloeStarted
 }
 
 pub fn floe_guard_ask(guard: Guard, table: &[u8]) -> FloeAsked
-    ensures { FlatAnswer (λ a. AskedAs table.now guard a.0 × (a.1 ≡ guard)) flat_asked result }
+    ensures { FlatAnswer (λ a. AskedAs table.now guard a.0 a.1) flat_asked result }
 {
     let (answer, _) = guard.ask(table);
     // Asking changes nothing. A copy of the whole record would be read across what the caller has just stored.

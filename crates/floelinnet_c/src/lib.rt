@@ -75,7 +75,7 @@ pub extern "C" fn floe_guard_start(table: &[u8]) -> FloeStarted
 
 #[unsafe(no_mangle)]
 pub extern "C" fn floe_guard_ask(guard: Guard, table: &[u8]) -> FloeAsked
-    ensures { FlatAnswer (λ a. AskedAs table.now guard a.0 × (a.1 ≡ guard)) flat_asked result }
+    ensures { FlatAnswer (λ a. AskedAs table.now guard a.0 a.1) flat_asked result }
 {
     floelinnet::floe_guard_ask(guard, table)
 }

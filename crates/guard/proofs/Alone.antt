@@ -40,8 +40,8 @@ run_count r (c ∷ calls) last (r', s, rest) = run_count r' calls last rest ∙ 
 
 module _ (job : ℕ) where
   module _ (r : List Guard) (e : outside (length r) job ≡ false) where
-    pub own_ask : (b : List ℕ) (a : Result Answer Refused) → RowAskedAs r job b a → AskedAs b (guard_at r job) a
-    own_ask b a asked = record { refusal = asked.refusal ∙ first_skip 14 0 (outside (length r) job) (look_rows b (guard_at r job).state) e; answer = asked.answer }
+    pub own_ask : (b : List ℕ) (a : Result Answer Refused) → RowAskedAs r job b a → AskedAs b (guard_at r job) a (guard_at r job)
+    own_ask b a asked = record { refusal = asked.refusal ∙ first_skip 14 0 (outside (length r) job) (look_rows b (guard_at r job).state) e; answer = asked.answer; guard = refl }
 
     -- a call of the job, seen from its own guard
     own_step : (c : Call) (r' : List Guard) → RowStep r job c r' → (calls : List Call) (h : Guard) → Run (guard_at r' job) calls h → Run (guard_at r job) (c ∷ calls) h
@@ -55,7 +55,7 @@ module _ (job : ℕ) where
         go (Ok x) (refused n v) q w = absurd (passed_not_refused q)
         go (Err why) passed q w = absurd (passed_not_refused (sym q))
         go (Err why) (refused k u) q w = ap (λ z. guard_at z job) w
-    own_step (asks b a) r' (s, w) calls h rest = (own_ask b a s, subst (λ z. Run (guard_at z job) calls h) w rest)
+    own_step (asks b a) r' (s, w) calls h rest = (guard_at r job, own_ask b a s, subst (λ z. Run (guard_at z job) calls h) w rest)
     own_step (tells b byte a) r' s calls h rest =
         let f = first_skip 14 0 (outside (length r) job) (tell_rows b (guard_at r job) byte) e in
         let g = go (first (tell_rows b (guard_at r job) byte)) (machine_of b) (outcome byte) (s.row ∙ ap (λ t. row_told_when t (machine_of b) r job (outcome byte)) f) in
@@ -81,7 +81,7 @@ module _ (job : ℕ) where
 pub run_told : (b : List ℕ) (g : Guard) (calls : List Call) (h : Guard) → OnTable b calls → Run g calls h → h ≡ told_all b g (bytes_told calls)
 run_told b g [] h on e = e
 run_told b g (starts b' a ∷ calls) h on w = absurd on
-run_told b g (asks b' a ∷ calls) h (q, on) (asked, rest) = run_told b g calls h on rest
+run_told b g (asks b' a ∷ calls) h (q, on) (s, asked, rest) = run_told b g calls h on (subst (λ z. Run z calls h) asked.guard rest)
 run_told b g (tells b' byte a ∷ calls) h (q, on) (s, told, rest) =
     run_told b s calls h on rest ∙ ap (λ z. told_all b z (bytes_told calls)) (subst (λ z. ToldAs z g byte a s) q told).guard
 

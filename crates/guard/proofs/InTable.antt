@@ -43,8 +43,8 @@ module _ (b : List ℕ) (e : first (table_rows b) ≡ passed) where
   m = machine_of b
 
   module _ (g : Guard) (h : g.state < state_count b) where
-    asked_in_table : (r : Result Answer Refused) → AskedAs b g r → says r ≡ passed
-    asked_in_table r asked = asked.refusal ∙ checked_looks b e g.state h
+    asked_in_table : (r : Result Answer Refused) (g' : Guard) → AskedAs b g r g' → says r ≡ passed
+    asked_in_table r g' asked = asked.refusal ∙ checked_looks b e g.state h
 
     abbrev left : ℕ → List Row
     left byte = row 13 (ltb 1 byte) 0 ∷ row 17 (leb most_told g.count) 0 ∷ []
@@ -95,7 +95,7 @@ module _ (b : List ℕ) (e : first (table_rows b) ≡ passed) where
   never_leaves p = states_below m (checked_well_made b e) fresh p some_state
 
   -- a guard started on a checked table, told these bytes and asked
-  pub answers_by_walk : (bytes : List ℕ) (r : Result Answer Refused) → AskedAs b (told_all b fresh bytes) r → ByWalk m 0 (heard bytes) r
-  answers_by_walk bytes r asked =
-      let walked = subst (λ g. AskedAs b g r) (told_all_lem bytes) asked in
-      ask_by_walk m 0 fresh.outcomes 0 (heard bytes) r (asked_in_table (after_all m fresh (heard bytes)) (never_leaves (heard bytes)) r walked) walked.answer
+  pub answers_by_walk : (bytes : List ℕ) (r : Result Answer Refused) (g : Guard) → AskedAs b (told_all b fresh bytes) r g → ByWalk m 0 (heard bytes) r
+  answers_by_walk bytes r g asked =
+      let walked = subst (λ z. AskedAs b z r g) (told_all_lem bytes) asked in
+      ask_by_walk m 0 fresh.outcomes 0 (heard bytes) r (asked_in_table (after_all m fresh (heard bytes)) (never_leaves (heard bytes)) r g walked) walked.answer

@@ -39,8 +39,8 @@ module _ (b : List ℕ) where
   pub start_one_result : (r r' : Result ⊤ Refused) (g g' : Guard) → StartedAs b r g → StartedAs b r' g' → (r ≡ r') × (g ≡ g')
   start_one_result r r' g g' p q = (same_done r r' (p.refusal ∙ sym q.refusal), p.guard ∙ sym q.guard)
 
-  pub ask_one_result : (g : Guard) (r r' : Result Answer Refused) → AskedAs b g r → AskedAs b g r' → r ≡ r'
-  ask_one_result g r r' p q = same_ask _ g r r' (p.refusal ∙ sym q.refusal) p.answer q.answer
+  pub ask_one_result : (g : Guard) (r r' : Result Answer Refused) (h h' : Guard) → AskedAs b g r h → AskedAs b g r' h' → (r ≡ r') × (h ≡ h')
+  ask_one_result g r r' h h' p q = (same_ask _ g r r' (p.refusal ∙ sym q.refusal) p.answer q.answer, p.guard ∙ sym q.guard)
 
   pub tell_one_result : (g : Guard) (byte : ℕ) (r r' : Result ⊤ Refused) (h h' : Guard) → ToldAs b g byte r h → ToldAs b g byte r' h' → (r ≡ r') × (h ≡ h')
   tell_one_result g byte r r' h h' p q = (same_done r r' (p.refusal ∙ sym q.refusal), p.guard ∙ sym q.guard)

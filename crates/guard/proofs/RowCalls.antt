@@ -42,8 +42,8 @@ module _ (r : List Guard) (job : ℕ) (b : List ℕ) (e : outside (length r) job
       put passed = refl
       put (refused number at) = set-get_or r job fresh
 
-  pub ask_inside : (a : Result Answer Refused) → AskedAs b (guard_at r job) a → RowAskedAs r job b a
-  ask_inside a asked = record { refusal = asked.refusal ∙ sym (first_skip 14 0 _ _ e); answer = asked.answer }
+  pub ask_inside : (a : Result Answer Refused) (g : Guard) → AskedAs b (guard_at r job) a g → RowAskedAs r job b a
+  ask_inside a g asked = record { refusal = asked.refusal ∙ sym (first_skip 14 0 _ _ e); answer = asked.answer }
 
   pub tell_inside : (byte : ℕ) (a : Result ⊤ Refused) (g : Guard) → ToldAs b (guard_at r job) byte a g → RowToldAs r job b byte a (set r job g)
   tell_inside byte a g told =

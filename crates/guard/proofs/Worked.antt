@@ -17,7 +17,7 @@ abbrev told : List ℕ → Guard
 told bytes = told_all any_hit_1_2 fresh bytes
 
 abbrev Answers : List ℕ → Answer → Type 0
-Answers bytes a = AskedAs any_hit_1_2 (told bytes) (Ok a)
+Answers bytes a = AskedAs any_hit_1_2 (told bytes) (Ok a) (told bytes)
 
 pub any_hit_1_2_answers :
     Answers [] Normal
@@ -29,11 +29,11 @@ pub any_hit_1_2_answers :
     × (told (0 ∷ 0 ∷ 1 ∷ []) ≡ lost_in 1 (replicate 14 true ++ false ∷ []) 3)
 unfolding first
 any_hit_1_2_answers = (
-  record { refusal = refl; answer = (refl, (1, refl)) },
-  record { refusal = refl; answer = (refl, refl) },
-  record { refusal = refl; answer = (refl, (1, refl)) },
-  record { refusal = refl; answer = (refl, refl) },
-  record { refusal = refl; answer = refl },
-  record { refusal = refl; answer = refl },
+  record { refusal = refl; answer = (refl, (1, refl)); guard = refl },
+  record { refusal = refl; answer = (refl, refl); guard = refl },
+  record { refusal = refl; answer = (refl, (1, refl)); guard = refl },
+  record { refusal = refl; answer = (refl, refl); guard = refl },
+  record { refusal = refl; answer = refl; guard = refl },
+  record { refusal = refl; answer = refl; guard = refl },
   refl,
 )

@@ -41,10 +41,11 @@ StandingBy miss g (Err r) = Unit {0}
 abbrev pub Standing : Machine → Guard → Result Answer Refused → Type 0
 Standing m g = StandingBy (m.next g.state false) g
 
--- "A lost guard is tested like any other."
-pub record AskedAs (b : List ℕ) (g : Guard) (r : Result Answer Refused) : Type 0 where
+-- the answer of an ask, and the guard then. "A lost guard is tested like any other."
+pub record AskedAs (b : List ℕ) (g : Guard) (r : Result Answer Refused) (g' : Guard) : Type 0 where
   pub refusal : says r ≡ first (look_rows b g.state)
   pub answer : Standing (machine_of b) g r
+  pub guard : g' ≡ g
 
 -- what is held of the outcomes held so far and of new ones after them: as many as before, the newest
 abbrev pub latest : (os new : List Bool) → List Bool

@@ -1,4 +1,4 @@
--- RULES, The row: "No other guard changes, and what a job hears depends on no guard but its own." To say so of whole runs: calls one after the other, as they were answered, of one guard and of a row of guards. A tell leaves the guard where the caller has it; where a start is refused the caller keeps the one it had.
+-- RULES, The row: "No other guard changes, and what a job hears depends on no guard but its own." To say so of whole runs: calls one after the other, as they were answered, of one guard and of a row of guards. A caller takes the guard that comes back; where a start is refused it keeps the one it had.
 use Rattle.std.specs.Prelude.{◌≡◌, cond, List, [], ◌∷◌, ℕ, eqb, ⊤, Result, Ok, Err}
 use Rattle.layout.specs.declared.Refused.{Refused}
 use Rattle.guard.specs.declared.Guard.{Guard}
@@ -20,7 +20,7 @@ taken (Err r) started old = old
 abbrev pub Run : Guard → List Call → Guard → Type 0
 Run g [] h = h ≡ g
 Run g (starts b a ∷ calls) h = (s : Guard) × StartedAs b a s × Run (taken a s g) calls h
-Run g (asks b a ∷ calls) h = AskedAs b g a × Run g calls h
+Run g (asks b a ∷ calls) h = (s : Guard) × AskedAs b g a s × Run s calls h
 Run g (tells b byte a ∷ calls) h = (s : Guard) × ToldAs b g byte a s × Run s calls h
 
 -- a call on a row, for one job

@@ -132,7 +132,7 @@ impl Guard {
 
     // What a guard that is only looked at says before a job.
     fn says(&self, table: &[u8]) -> Result<Answer, Refused>
-        ensures { AskedAs table.now self.now result }
+        ensures { AskedAs table.now self.now result self.now }
     {
         let moves = table::look(table, self.state)?;
         Ok(self.answer(moves))
@@ -155,7 +155,7 @@ impl Guard {
 
     // Before a job: whether a miss is still allowed; the guard comes back as it was.
     pub fn ask(self, table: &[u8]) -> (Result<Answer, Refused>, Guard)
-        ensures { AskedAs table.now self result.0 × (result.1 ≡ self) }
+        ensures { AskedAs table.now self result.0 result.1 }
     {
         (self.says(table), self)
     }

@@ -17,5 +17,5 @@ pub returns : goal.returns
 returns c =
     let a = c.args in
     let (e, l) = c.in_ok-test_job.ensures in
-    ask_inside a.row.now a.job a.table.now e c.says.result
-    (subst (λ g. AskedAs a.table.now g c.says.result) (get_or_default a.row.now a.job _ fresh l) c.says.ensures)
+    ask_inside a.row.now a.job a.table.now e c.says.result _
+    (subst (λ g. AskedAs a.table.now g c.says.result g) (get_or_default a.row.now a.job _ fresh l) c.says.ensures)
