@@ -78,7 +78,7 @@ impl Pair {
         let mut rest = history;
         while rest != all - 1 {
             let before = rest / 2 + all / 2;
-            if rest % 2 == 0 && !history::may_miss(self.first, before) {
+            if rest % 2 == 0 && !history::allows_miss(&self.first, before) {
                 return false;
             }
             rest = before;
@@ -91,8 +91,8 @@ impl Pair {
         requires { history < 2 ^ self.now.m }
         ensures { (result ≡ true) ↔ Splits self.now.first self.now.second self.now.m history }
     {
-        history::may_miss(self.first, history)
-            && !history::may_miss(self.second, history)
+        history::allows_miss(&self.first, history)
+            && !history::allows_miss(&self.second, history)
             && self.keeps(history)
     }
 

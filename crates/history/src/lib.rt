@@ -99,12 +99,12 @@ pub fn limit_may_miss(limit: Limit, history: u16) -> bool
     }
 }
 
-// The lowest-numbered limit under which a miss can't follow, where there is one. Inlined it would copy the set at each
-// call.
+// The lowest-numbered limit of a lent set under which a miss can't follow, where there is one: the set stays where it
+// lies. Inlined, a loop around it would hold the set in registers and store it anew at each miss.
 #[inline(never)]
-pub fn blocking_limit(set: LimitSet, history: u16) -> Option<usize>
-    requires { SetAllowed longest set }
-    ensures { BlockedBy set history result }
+pub fn blocked_by(set: &LimitSet, history: u16) -> Option<usize>
+    requires { SetAllowed longest set.now }
+    ensures { BlockedBy set.now history result }
 {
     for i in 0..set.count {
         if !limit_may_miss(set.limits[i], history) {
@@ -114,12 +114,28 @@ pub fn blocking_limit(set: LimitSet, history: u16) -> Option<usize>
     None
 }
 
-// Whether a miss can follow under every limit of the set.
+// The same of a set by value.
+pub fn blocking_limit(set: LimitSet, history: u16) -> Option<usize>
+    requires { SetAllowed longest set }
+    ensures { BlockedBy set history result }
+{
+    blocked_by(&set, history)
+}
+
+// Whether a miss can follow under every limit of a lent set.
+pub fn allows_miss(set: &LimitSet, history: u16) -> bool
+    requires { SetAllowed longest set.now }
+    ensures { result ≡ may_miss set.now history }
+{
+    blocked_by(set, history).is_none()
+}
+
+// The same of a set by value.
 pub fn may_miss(set: LimitSet, history: u16) -> bool
     requires { SetAllowed longest set }
     ensures { result ≡ may_miss set history }
 {
-    blocking_limit(set, history).is_none()
+    allows_miss(&set, history)
 }
 
 // How many outcomes before a job lie in one window with it.

@@ -5,7 +5,7 @@
 ghost use Rattle.std.specs.Prelude.{◌≡◌, ℕ, Bool, List, ◌-◌, ◌≤◌, ◌<◌, ◌^◌, length, pos, ◌-ℤ◌, Ok};
 ghost use Rattle.meaning.specs.Longest.{longest};
 ghost use Rattle.meaning.specs.Sets.{SetAllowed};
-ghost use Rattle.history.specs.MayMiss.{Blocks, BlockedBy};
+ghost use Rattle.history.specs.MayMiss.{Blocks};
 ghost use Rattle.verdict.specs.Judge.{most_jobs, Verdict, JudgedAs};
 ghost use Rattle.verdict.specs.Turn.{Turned, SaysLost, Gives};
 
@@ -33,16 +33,6 @@ pub fn take_turn(set: LimitSet, history: u16, hit: bool) -> Result<u16, usize>
     turn(&set, history, hit)
 }
 
-// The limit that blocks a miss, of a lent set. Inlined, the judge's loop would hold the set in registers and store it
-// anew at each miss.
-#[inline(never)]
-fn blocked(set: &LimitSet, history: u16) -> Option<usize>
-    requires { SetAllowed longest set.now }
-    ensures { BlockedBy set.now history result }
-{
-    history::blocking_limit(*set, history)
-}
-
 // The same where the set is lent, so that no hit copies it or makes a call.
 #[inline]
 fn turn(set: &LimitSet, history: u16, hit: bool) -> Result<u16, usize>
@@ -50,7 +40,7 @@ fn turn(set: &LimitSet, history: u16, hit: bool) -> Result<u16, usize>
     ensures { Turned set.now history hit result }
 {
     if !hit {
-        if let Some(limit) = blocked(set, history) {
+        if let Some(limit) = history::blocked_by(set, history) {
             return Err(limit);
         }
     }
@@ -65,7 +55,9 @@ fn first_job(job: u64, back: usize) -> i64
     job as i64 - back as i64
 }
 
-// What every judge answers where a limit blocks the miss after the first `before` outcomes.
+// What every judge answers where a limit blocks the miss after the first `before` outcomes. Inlined, the judge's loop
+// would keep a second copy of the set for it.
+#[inline(never)]
 pub fn lost_by(set: LimitSet, history: u16, before: usize, limit: usize) -> Loss
     requires { SetAllowed longest set × Blocks set history limit × (limit < set.count) × (before < most_jobs) }
     ensures { SaysLost set history before limit result }

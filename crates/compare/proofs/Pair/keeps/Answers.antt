@@ -4,7 +4,7 @@ use mathlib.Core.Logic.Iff
 use mathlib.Core.Bool.{false≢true}
 use native.Mathlib.Omega.{arith}
 use Rattle.compare.proofs.Back.{WalkedBack, walked_back, all_hits_kept}
-use Rattle.compare.proofs.Pair.keeps.Goals.{In-loop-rest, else-rest-eq0-via-then-rest-eq0+else-not-may_miss, else-rest-eq0-via-else-rest-eq0}
+use Rattle.compare.proofs.Pair.keeps.Goals.{In-loop-rest, else-rest-eq0-via-then-rest-eq0+else-not-allows_miss, else-rest-eq0-via-else-rest-eq0}
 use Rattle.compare.proofs.Pair.keeps.Goals as goal
 
 -- one step back, where what is left isn't hits alone
@@ -14,10 +14,10 @@ back c =
     walked_back p.first p.m p.enough_for_first c.count_of-all.result c.loop-rest.rest c.count_of-all.ensures.power c.loop-rest.invariant.0
     (λ e. c.loop-rest-test.true (omega arith))
 
-pub returns-then-not-may_miss : goal.returns-then-not-may_miss
-returns-then-not-may_miss c = (
+pub returns-then-not-allows_miss : goal.returns-then-not-allows_miss
+returns-then-not-allows_miss c = (
   λ e. absurd (false≢true e),
-  λ k. absurd ((back (goal.at.returns-then-not-may_miss c).In-loop-rest).blocked c.if-rest-eq0.true (sym c.may_miss.ensures ∙ c.if-not-may_miss.true) (c.loop-rest.invariant.1.0 k)),
+  λ k. absurd ((back (goal.at.returns-then-not-allows_miss c).In-loop-rest).blocked c.if-rest-eq0.true (sym c.allows_miss.ensures ∙ c.if-not-allows_miss.true) (c.loop-rest.invariant.1.0 k)),
 )
 
 pub loop-rest-smaller : goal.loop-rest-smaller
@@ -29,7 +29,7 @@ loop-rest-preserved c =
       walked.within,
       Iff.trans c.loop-rest.invariant.1
           (elim c.else-rest-eq0.branch [
-            | else-rest-eq0-via-then-rest-eq0+else-not-may_miss w ↦ walked.miss w.if-rest-eq0.true (sym w.may_miss.ensures ∙ w.if-not-may_miss.false)
+            | else-rest-eq0-via-then-rest-eq0+else-not-allows_miss w ↦ walked.miss w.if-rest-eq0.true (sym w.allows_miss.ensures ∙ w.if-not-allows_miss.false)
             | else-rest-eq0-via-else-rest-eq0 w ↦ walked.hit w.if-rest-eq0.false
           ]),
     )
