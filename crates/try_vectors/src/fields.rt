@@ -3,7 +3,7 @@
 // What a field holds beyond the lent buffer is cut off, and so is half a byte at its end. Fields are numbered from 0
 // and parted by one space each; one that the line hasn't is empty. Buffers are lent and of fixed sizes, not Vecs:
 // running out of memory would be a failure that the vectors don't have.
-ghost use Rattle.std.specs.Prelude.{◌≤◌, ◌<◌};
+ghost use Rattle.std.specs.Prelude.{◌≤◌, ◌<◌, length};
 
 pub(crate) fn field(line: &[u8], number: usize) -> &[u8] {
     line.split(|byte| *byte == b' ').nth(number).unwrap_or(&[])
@@ -24,7 +24,9 @@ fn pair(high: u8, low: u8) -> u8 {
 }
 
 // Puts the bytes of a field at the start of `out`, and gives them.
-pub(crate) fn bytes<'a>(field: &[u8], out: &'a mut [u8]) -> &'a [u8] {
+pub(crate) fn bytes<'a>(field: &[u8], out: &'a mut [u8]) -> &'a [u8]
+    ensures { length result.now ≤ length out.old }
+{
     let n = out.len().min(field.len() / 2);
     let (pairs, _) = field.as_chunks::<2>();
     for (byte, [high, low]) in out.iter_mut().zip(pairs) {
@@ -34,7 +36,9 @@ pub(crate) fn bytes<'a>(field: &[u8], out: &'a mut [u8]) -> &'a [u8] {
 }
 
 // Puts the outcomes of a field at the start of `out`, and gives them.
-pub(crate) fn outcomes<'a>(field: &[u8], out: &'a mut [u8]) -> &'a [u8] {
+pub(crate) fn outcomes<'a>(field: &[u8], out: &'a mut [u8]) -> &'a [u8]
+    ensures { length result.now ≤ length out.old }
+{
     let digits = field.split(|byte| *byte == b'-').next().unwrap_or(&[]);
     let n = out.len().min(digits.len());
     for (outcome, digit) in out.iter_mut().zip(digits) {

@@ -4,7 +4,7 @@
 use layout::Refused;
 
 pub(crate) fn print(rt: &impl Print, words: &str) {
-    let _ = print!(rt; "{words}");
+    let _ = rt.write_all(words.as_bytes());
 }
 
 // Each value in so many hexadecimal digits.
